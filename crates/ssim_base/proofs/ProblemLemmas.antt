@@ -4,14 +4,14 @@ use Rattle.std.proofs.lemmas.List.{append-nil, length-append}
 use Rattle.std.proofs.lemmas.List.Folds.{list_any-append}
 use Rattle.std.proofs.Math.Bool.{or-false}
 use Rattle.std.specs.List.{list_any}
-use Rattle.ssim_records.specs.Blocks.{CountsOn, beyond}
+use Rattle.ssim_records.specs.Blocks.{CountGoesOn, beyond}
 use Rattle.ssim_records.specs.Frames.{Frames, FramesExist, others}
 use Rattle.ssim_records.specs.Reading as reading
 use Rattle.ssim_records.specs.Reading.{BlockAnswer, GivesNextBlock, HasNumber, IsAhead, Reading, without_block}
 use Rattle.ssim_records.specs.declared.fault.RecordFault.{RecordFault}
 use Rattle.ssim_records.specs.declared.fault.RecordFault.TheVariants.{Short, BadType, BadColumn, ReadFault, ReaderNeverEnds}
 use Rattle.ssim_base.specs.Problems.{AreItems, AreProblems, After, HasProblems, Item, Standing, after_item, begins_as_trailer, end_problem, missing_in, numbered, problem_in, problems_in, standing_after}
-use Rattle.ssim_base.specs.Reading.{AreBlocks, Came, NeverEnds}
+use Rattle.ssim_base.specs.Reading.{AreBlocks, HaveCome, NeverEnds}
 use Rattle.ssim_base.specs.internal.Problems.{IsNew, Stands, Takes}
 use Rattle.ssim_base.specs.declared.fault.BaseFault.TheVariants.{Read}
 use Rattle.ssim_base.specs.declared.problems.ProblemReader.{ProblemReader}
@@ -208,7 +208,7 @@ problems-cut limit (Some all) (Some left) (Some left') r new before found p n sa
 
 -- a reading of blocks that is refused as 14
 pub blocks-beyond : (limit : ℕ) (told left left' : Option (List ℕ)) (start now : ℕ) (r new : Reading) (before : List (ℕ × List ℕ)) (f : RecordFault) → new.limit ≡ limit → ToldBlocks limit told left r before
-    → GivesNextBlock r left new left' (Err f) → CountsOn told left' start now 0 new.came → reading.NeverEnds new (without_block (Err f)) → NeverEnds limit (Came told left' start now) (Read f)
+    → GivesNextBlock r left new left' (Err f) → CountGoesOn told left' start now 0 new.came → reading.NeverEnds new (without_block (Err f)) → NeverEnds limit (HaveCome told left' start now) (Read f)
 blocks-beyond limit told left left' start now r new before (Short n) same t given counts over = tt
 blocks-beyond limit told left left' start now r new before (BadType n) same t given counts over = tt
 blocks-beyond limit told left left' start now r new before (BadColumn n column) same t given counts over = tt
@@ -218,8 +218,8 @@ blocks-beyond limit told left left' start now r new before (ReaderNeverEnds n) s
     is : new.came ≡ limit + 1
     is = over.0 ∙ ap (λ k. k + 1) same
 
-    came : (told left left' : Option (List ℕ)) → ToldBlocks limit told left r before → GivesNextBlock r left new left' (Err (ReaderNeverEnds n)) → CountsOn told left' start now 0 new.came
-        → Came told left' start now (limit + 1)
+    came : (told left left' : Option (List ℕ)) → ToldBlocks limit told left r before → GivesNextBlock r left new left' (Err (ReaderNeverEnds n)) → CountGoesOn told left' start now 0 new.came
+        → HaveCome told left' start now (limit + 1)
     came None left None t given counts =
         let wrapped : (now + 0) % 2 ^ 128 ≡ (start + new.came) % 2 ^ 128 = counts in
         let same : now + 0 ≡ now = omega arith in

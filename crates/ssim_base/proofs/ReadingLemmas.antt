@@ -5,9 +5,10 @@ use Rattle.std.proofs.lemmas.List.Elements.{All-append}
 use Rattle.std.specs.List.{All}
 use Rattle.std.specs.Prelude.{IfNone, IfSome}
 use Rattle.std.specs.Io.KnownBytes.{IsAtEnd}
-use Rattle.ssim_records.specs.Blocks.{CameOn, CountsOn, Fetches, beyond}
+use Rattle.ssim_records.specs.Blocks.{CameOn, CountGoesOn, CountsOn, Fetches, beyond}
 use Rattle.ssim_records.specs.Frames.{Frames, FramesExist, others}
 use Rattle.ssim_records.specs.Reading as reading
+use Rattle.ssim_records.specs.Device.{Reader}
 use Rattle.ssim_records.specs.Reading.{Answer, Reading, GivesNext, HasNumber, IsAhead, RestFails}
 use Rattle.ssim_records.specs.Record.{IsRecord, fault_of, serial_of}
 use Rattle.ssim_records.specs.declared.fault.RecordFault.{RecordFault}
@@ -18,7 +19,7 @@ use Rattle.ssim_records.proofs.Framing.{takes_all}
 use Rattle.ssim_base.specs.Base.{Ending, Done, Broken, Outcome, at_record, check_notes, data_set, first_refusal, kept, kept_all, missing, note_if, notes_of, refusal_at, unless_refused}
 use Rattle.ssim_base.specs.internal.DataSetReader.{IsSoFar, notes_at}
 use Rattle.ssim_base.specs.internal.Acceptance.{HasAccepted, IsRefused, AcceptsNext}
-use Rattle.ssim_base.specs.Reading.{AreBlocks, AreGiven, Begins, Came, FailsAfter, FailsAs, Gives, IsReadOf, IsRecordAfter, NamesNext, NeverEnds, RefusesWhole, Stops}
+use Rattle.ssim_base.specs.Reading.{AreBlocks, AreGiven, Begins, Came, HaveCome, FailsAfter, FailsAs, Gives, IsReadOf, IsRecordAfter, NamesNext, NeverEnds, RefusesWhole, Stops}
 use Rattle.ssim_base.specs.internal.Reading.{ReturnsAs, AreGivenOf, Refuses, is_of_bytes}
 use Rattle.ssim_base.specs.ReadBack.{EachSpells}
 use Rattle.ssim_base.specs.declared.fault.BaseFault.{BaseFault}
@@ -292,7 +293,7 @@ step-refused limit told left left' r new g earlier done x (Refused n refusal) so
 -- ---- how many bytes came
 
 pub came-in : (limit : ℕ) (told left left' : Option (List ℕ)) (start now n : ℕ) (r new : Reading) (done : List Numbered) (a : Answer) → n ≡ new.came → Told limit told left r done
-    → GivesNext r left new left' a → CountsOn told left' start now 0 new.came → Came told left' start now n
+    → GivesNext r left new left' a → CountGoesOn told left' start now 0 new.came → HaveCome told left' start now n
 came-in limit None left None start now n r new done a is t given counts =
     let wrapped : (now + 0) % 2 ^ 128 ≡ (start + new.came) % 2 ^ 128 = counts in
     let same : now + 0 ≡ now = omega arith in
@@ -304,7 +305,7 @@ came-in limit (Some all) (Some left) (Some left') start now n r new done a is t 
 
 -- a reading that is refused as 14
 pub ended-beyond : (limit : ℕ) (told left left' : Option (List ℕ)) (start now : ℕ) (r new : Reading) (done : List Numbered) (f : RecordFault) → new.limit ≡ limit → Told limit told left r done
-    → GivesNext r left new left' (Err f) → CountsOn told left' start now 0 new.came → reading.NeverEnds new (Err f) → NeverEnds limit (Came told left' start now) (Read f)
+    → GivesNext r left new left' (Err f) → CountGoesOn told left' start now 0 new.came → reading.NeverEnds new (Err f) → NeverEnds limit (HaveCome told left' start now) (Read f)
 ended-beyond limit told left left' start now r new done (Short n) same t given counts over = tt
 ended-beyond limit told left left' start now r new done (BadType n) same t given counts over = tt
 ended-beyond limit told left left' start now r new done (BadColumn n column) same t given counts over = tt
@@ -390,7 +391,7 @@ whole-refused limit told (Read (ReaderNeverEnds n)) within h = tt
 whole-refused limit told (Refused n refusal) within h = (h, within)
 
 -- what bytes are read as, if the bytes that are left end within the limit
-rest-within : (limit : ℕ) (told left left' : Option (List ℕ)) (start now came came' : ℕ) → Came told left start now came → CameOn left left' came came' → IsAtEnd left' → came' ≤ limit
+rest-within : (limit : ℕ) (told left left' : Option (List ℕ)) (start now came came' : ℕ) → HaveCome told left start now came → CameOn left left' came came' → IsAtEnd left' → came' ≤ limit
     → IfSome told (λ bytes. length bytes ≤ limit)
 rest-within limit None left left' start now came came' h on end within = tt
 rest-within limit (Some all) None left' start now came came' h on end within = absurd h
@@ -398,7 +399,7 @@ rest-within limit (Some all) (Some x) None start now came came' h on end within 
 rest-within limit (Some all) (Some x) (Some y) start now came came' h on end within = omega (arith, h, on, ap length end, within)
 
 -- the fault of the bytes, if those that are left end within the limit
-pub rest-refused : (limit : ℕ) (told left left' : Option (List ℕ)) (start now came came' : ℕ) (e : BaseFault) → Refuses limit told e → Came told left start now came → CameOn left left' came came' → IsAtEnd left' → came' ≤ limit
+pub rest-refused : (limit : ℕ) (told left left' : Option (List ℕ)) (start now came came' : ℕ) (e : BaseFault) → Refuses limit told e → HaveCome told left start now came → CameOn left left' came came' → IsAtEnd left' → came' ≤ limit
     → RefusesWhole limit told e
 rest-refused limit told left left' start now came came' fault.Memory h c on end within = tt
 rest-refused limit told left left' start now came came' (Read (Short n)) h c on end within = (h, rest-within limit told left left' start now came came' c on end within)
@@ -448,7 +449,7 @@ bytes-fail old new now (Read (ReaderNeverEnds n)) is h same = same ∙ h
 bytes-fail old new now (Refused n refusal) is h same = same ∙ h
 
 -- bytes that came after others
-came-then : (told left left' : Option (List ℕ)) (start mid now came came' : ℕ) → Came told left start mid came → CameOn left left' came came' → CountsOn left left' mid now came came' → Came told left' start now came'
+came-then : (told left left' : Option (List ℕ)) (start mid now came came' : ℕ) → HaveCome told left start mid came → CameOn left left' came came' → CountGoesOn left left' mid now came came' → HaveCome told left' start now came'
 came-then None None None start mid now came came' c on counts = omega (arith, c, counts)
 came-then None None (Some y) start mid now came came' c on counts = absurd counts
 came-then None (Some x) left' start mid now came came' c on counts = absurd c
@@ -457,7 +458,8 @@ came-then (Some all) (Some x) None start mid now came came' c on counts = absurd
 came-then (Some all) (Some x) (Some y) start mid now came came' c on counts = on ∙ c
 
 -- a fault of the rest: what it counts
-pub rest-fails : (r : Reading) (old mid new : ℕ) (f : RecordFault) → mid ≡ old → RestFails r mid new (Err f) → FailsAs old new (Read f)
+pub rest-fails : (r : Reading) (old : ℕ) (mid new : Reader) (f : RecordFault) → mid.failures ≡ old
+    → RestFails r mid new (Err f) → FailsAs old new.failures (Read f)
 rest-fails r old mid new (Short n) same h = absurd h
 rest-fails r old mid new (BadType n) same h = absurd h
 rest-fails r old mid new (BadColumn n column) same h = absurd h
@@ -465,17 +467,20 @@ rest-fails r old mid new (ReadFault n) same h = h.1 ∙ ap (λ k. (k + 1) % 2 ^ 
 rest-fails r old mid new (ReaderNeverEnds n) same h = h.1 ∙ same
 
 -- a fault of the rest: how many bytes came
-pub rest-ends : (limit : ℕ) (told left left' : Option (List ℕ)) (start mid now came : ℕ) (r : Reading) (old new : ℕ) (f : RecordFault) → r.limit ≡ limit → Came told left start mid came → CameOn left left' came r.came
-    → CountsOn left left' mid now came r.came → RestFails r old new (Err f) → NeverEnds limit (Came told left' start now) (Read f)
-rest-ends limit told left left' start mid now came r old new (Short n) same c on counts h = tt
-rest-ends limit told left left' start mid now came r old new (BadType n) same c on counts h = tt
-rest-ends limit told left left' start mid now came r old new (BadColumn n column) same c on counts h = tt
-rest-ends limit told left left' start mid now came r old new (ReadFault n) same c on counts h = tt
-rest-ends limit told left left' start mid now came r old new (ReaderNeverEnds n) same c on counts h =
-    subst (Came told left' start now) (h.2 ∙ ap (λ k. k + 1) same) (came-then told left left' start mid now came r.came c on counts)
+pub rest-ends : (limit : ℕ) (told mid new : Reader) (came : ℕ) (r : Reading) (f : RecordFault)
+    → r.limit ≡ limit → Came told mid came → CameOn mid.left new.left came r.came
+    → CountsOn mid new came r.came → RestFails r mid new (Err f)
+    → NeverEnds limit (Came told new) (Read f)
+rest-ends limit told mid new came r (Short n) same c on counts h = tt
+rest-ends limit told mid new came r (BadType n) same c on counts h = tt
+rest-ends limit told mid new came r (BadColumn n column) same c on counts h = tt
+rest-ends limit told mid new came r (ReadFault n) same c on counts h = tt
+rest-ends limit told mid new came r (ReaderNeverEnds n) same c on counts h =
+    subst (Came told new) (h.2 ∙ ap (λ k. k + 1) same)
+    (came-then told.left mid.left new.left told.came mid.came new.came came r.came c on counts)
 
 -- a fault of the rest says nothing of the bytes
-pub rest-other : (limit : ℕ) (told : Option (List ℕ)) (r : Reading) (old new : ℕ) (f : RecordFault) → RestFails r old new (Err f) → RefusesWhole limit told (Read f)
+pub rest-other : (limit : ℕ) (told : Option (List ℕ)) (r : Reading) (old new : Reader) (f : RecordFault) → RestFails r old new (Err f) → RefusesWhole limit told (Read f)
 rest-other limit told r old new (Short n) h = absurd h
 rest-other limit told r old new (BadType n) h = absurd h
 rest-other limit told r old new (BadColumn n column) h = absurd h
@@ -530,8 +535,8 @@ invalid-read limit all (Read f) is h = h
 invalid-read limit all (Refused n refusal) is h = h
 
 -- the fault came after an invalid record
-pub names-rest : (limit : ℕ) (all left : Option (List ℕ)) (e : BaseFault) (number old new : ℕ)
-    (r : Reading) (f : RecordFault) → is_of_bytes e ≡ true → Refuses limit all e
+pub names-rest : (limit : ℕ) (all left : Option (List ℕ)) (e : BaseFault) (number : ℕ)
+    (old new : Reader) (r : Reading) (f : RecordFault) → is_of_bytes e ≡ true → Refuses limit all e
     → IsRecordAfter e (number + 1) → r.number ≡ number → RestFails r old new (Err f)
     → NamesNext limit all left (Read f)
 names-rest limit all left e number old new r (Short n) is h next same fails = absurd fails

@@ -1,6 +1,7 @@
 -- What the bytes of a data set are read as.
 use Rattle.std.specs.Prelude.{◌≡◌, ◌⊎◌, ℕ, ◌+◌, ◌-◌, ◌<◌, ◌≤◌, ◌%◌, ◌^◌, false, IfSome, List, [], ◌∷◌, ◌++◌, length, Option, Some, None, Result, Ok, Err}
 use Rattle.std.specs.List.{All}
+use Rattle.ssim_records.specs.Device.{Reader}
 use Rattle.ssim_records.specs.Frames.{Frames, others}
 use Rattle.ssim_records.specs.Record.{IsRecord, Spells, fault_of}
 use Rattle.ssim_records.specs.declared.fault.RecordFault.{RecordFault}
@@ -116,13 +117,16 @@ FailsAs old new (fault.Read (ReadFault number)) = new ≡ (old + 1) % 2 ^ 64
 FailsAs old new (fault.Read (ReaderNeverEnds number)) = new ≡ old
 FailsAs old new (fault.Refused number refusal) = new ≡ old
 
--- n bytes were fetched: the reader has n fewer bytes left or, if it does not report them, has
--- counted n more
-abbrev pub Came : Option (List ℕ) → Option (List ℕ) → ℕ → ℕ → ℕ → Type 0
-Came (Some left) (Some left') old new n = n + length left' ≡ length left
-Came (Some left) None old new n = ⊥
-Came None (Some left') old new n = ⊥
-Came None None old new n = new % 2 ^ 128 ≡ (old + n) % 2 ^ 128
+-- n bytes were fetched: n fewer are left or, if the bytes left are not known, the count is n more
+abbrev pub HaveCome : Option (List ℕ) → Option (List ℕ) → ℕ → ℕ → ℕ → Type 0
+HaveCome (Some left) (Some left') old new n = n + length left' ≡ length left
+HaveCome (Some left) None old new n = ⊥
+HaveCome None (Some left') old new n = ⊥
+HaveCome None None old new n = new % 2 ^ 128 ≡ (old + n) % 2 ^ 128
+
+-- n bytes came from a reader
+abbrev pub Came : Reader → Reader → ℕ → Type 0
+Came old new = HaveCome old.left new.left old.came new.came
 
 -- if the fault is 14, one byte more came than the limit
 abbrev pub NeverEnds : ℕ → (ℕ → Type 0) → BaseFault → Type 0

@@ -1,6 +1,7 @@
 -- What the records of a base are, and how they are read again once they are written.
 use Rattle.std.specs.Prelude.{◌≡◌, ◌⊎◌, ℕ, ◌-◌, ◌≤◌, List, [], ◌∷◌, ◌++◌, map, length, Option, None, Some, Ok, IsSome}
 use Rattle.std.specs.List.{All, flat_map}
+use Rattle.ssim_records.specs.Device.{Reader}
 use Rattle.ssim_records.specs.InputBuffer.{Gives, Input, Stops}
 use Rattle.ssim_records.specs.Record.{IsRecord, written}
 use Rattle.ssim_records.specs.declared.record.Record.{Record}
@@ -56,14 +57,10 @@ IsAfterUsed input (fault.Invalid offset) = offset ≡ input.came - length input.
 
 -- The reader stopped if the fault says so. Else it did not fail, and at an invalid line it gave the
 -- bytes that came.
-abbrev pub StopsSaved : ℕ → Option (List ℕ) → Option (List ℕ) → ℕ → ℕ → ℕ → ℕ → ℕ → ℕ → SavedFault
-    → Type 0
-StopsSaved limit left left' counted counted' failures failures' came came' fault.Memory =
-    failures' ≡ failures
-StopsSaved limit left left' counted counted' failures failures' came came' (fault.Read stop) =
-    Stops limit left left' counted counted' failures failures' came stop
-StopsSaved limit left left' counted counted' failures failures' came came' (fault.Invalid offset) =
-    Gives left left' counted counted' failures failures' came came'
+abbrev pub StopsSaved : ℕ → Reader → Reader → ℕ → ℕ → SavedFault → Type 0
+StopsSaved limit old new came came' fault.Memory = new.failures ≡ old.failures
+StopsSaved limit old new came came' (fault.Read stop) = Stops limit old new came stop
+StopsSaved limit old new came came' (fault.Invalid offset) = Gives old new came came'
 
 -- the outcome has these records, with any notes
 abbrev pub IsOfRecords : List Record → Outcome → Type 0

@@ -63,16 +63,16 @@ impl Base {
         stations: Stations,
         limit: u64,
     ) -> Result<BaseRead, BaseFault>
-        ensures read { Returns result (IsReadOf limit (R.left reader.old)) }
+        ensures read { Returns result (IsReadOf limit (R.state reader.old).left) }
         ensures rows { IfOk result (λ read. read.base.rows ≡ stations) }
-        ensures no_failure { IfOk result (λ _. R.failures reader.new ≡ R.failures reader.old) }
+        ensures no_failure { IfOk result (λ _. (R.state reader.new).failures
+            ≡ (R.state reader.old).failures) }
         ensures failure { IfErr result
-            (λ e. FailsAs (R.failures reader.old) (R.failures reader.new) e) }
+            (λ e. FailsAs (R.state reader.old).failures (R.state reader.new).failures e) }
         ensures fails_after { IfErr result
-            (λ e. FailsAfter (R.left reader.old) (R.left reader.new) e) }
+            (λ e. FailsAfter (R.state reader.old).left (R.state reader.new).left e) }
         ensures never_ends { IfErr result
-            (λ e. NeverEnds limit (Came (R.left reader.old) (R.left reader.new) (R.came reader.old)
-            (R.came reader.new)) e) }
+            (λ e. NeverEnds limit (Came (R.state reader.old) (R.state reader.new)) e) }
     {
         let (data_set, notes) = DataSet::read_noted(alloc, reader, limit)?;
         let base = Base::of(data_set, stations);

@@ -35,8 +35,8 @@ impl Model for BaseFrame {
 
     ghost view = { λ f. frame_from f.header f.carrier f.trailer };
 
-    ghost invariant = { λ f. let frame = frame_from f.header f.carrier f.trailer in IsFrame frame
-        × IsWritableFrame frame };
+    ghost invariant = { λ f. let frame = frame_from f.header f.carrier f.trailer
+        in IsFrame frame × IsWritableFrame frame };
 }
 
 impl BaseFrame {

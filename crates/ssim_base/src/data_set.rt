@@ -3,6 +3,7 @@
 ghost use Rattle.std.specs.Prelude.{◌≡◌, ◌↔◌, ℕ, List, Option, IsTrue, IfOk, IfErr, Ok};
 ghost use Rattle.std.specs.List.{All};
 ghost use Rattle.ssim_records.specs.declared.record.Record.{Record};
+ghost use Rattle.ssim_records.specs.Device.{Reader};
 ghost use Rattle.ssim_base.specs.Base.{airline_of};
 ghost use Rattle.ssim_base.specs.BaseSeen.{AreFlights, WasRead};
 ghost use Rattle.ssim_base.specs.Closed.{IsClosed};
@@ -63,16 +64,16 @@ impl DataSet {
     /// the record after the one that is refused.
     pub fn read<R: Source>(alloc: Global, reader: &mut R, limit: u64) -> Result<DataSet, BaseFault>
         ensures read { IfOk result (λ read. (notes : List Note)
-            × IsWholeOf limit (R.left reader.old) (Ok (read, notes))) }
-        ensures refused { IfErr result (RefusesWhole limit (R.left reader.old)) }
-        ensures no_failure { IfOk result (λ _. R.failures reader.new ≡ R.failures reader.old) }
+            × IsWholeOf limit (R.state reader.old).left (Ok (read, notes))) }
+        ensures refused { IfErr result (RefusesWhole limit (R.state reader.old).left) }
+        ensures no_failure { IfOk result (λ _. (R.state reader.new).failures
+            ≡ (R.state reader.old).failures) }
         ensures failure { IfErr result
-            (λ e. FailsAs (R.failures reader.old) (R.failures reader.new) e) }
+            (λ e. FailsAs (R.state reader.old).failures (R.state reader.new).failures e) }
         ensures names { IfErr result (λ e.
-            NamesNext limit (R.left reader.old) (R.left reader.new) e) }
+            NamesNext limit (R.state reader.old).left (R.state reader.new).left e) }
         ensures never_ends { IfErr result
-            (λ e. NeverEnds limit (Came (R.left reader.old) (R.left reader.new) (R.came reader.old)
-            (R.came reader.new)) e) }
+            (λ e. NeverEnds limit (Came (R.state reader.old) (R.state reader.new)) e) }
     {
         let mut records = Vec::new(alloc);
         let (records_read, number) = read_whole(alloc, &mut records, reader, limit)?;
@@ -87,15 +88,15 @@ impl DataSet {
         limit: u64,
     ) -> Result<(DataSet, Vec<Note>), BaseFault>
         ensures read { ReturnsAs (λ read. (read.0, read.1.items)) result
-            (IsReadOf limit (R.left reader.old)) }
-        ensures no_failure { IfOk result (λ _. R.failures reader.new ≡ R.failures reader.old) }
+            (IsReadOf limit (R.state reader.old).left) }
+        ensures no_failure { IfOk result (λ _. (R.state reader.new).failures
+            ≡ (R.state reader.old).failures) }
         ensures failure { IfErr result
-            (λ e. FailsAs (R.failures reader.old) (R.failures reader.new) e) }
+            (λ e. FailsAs (R.state reader.old).failures (R.state reader.new).failures e) }
         ensures fails_after { IfErr result
-            (λ e. FailsAfter (R.left reader.old) (R.left reader.new) e) }
+            (λ e. FailsAfter (R.state reader.old).left (R.state reader.new).left e) }
         ensures never_ends { IfErr result
-            (λ e. NeverEnds limit (Came (R.left reader.old) (R.left reader.new) (R.came reader.old)
-            (R.came reader.new)) e) }
+            (λ e. NeverEnds limit (Came (R.state reader.old) (R.state reader.new)) e) }
     {
         let mut records = Vec::new(alloc);
         let mut blocks = Records::new(limit);
@@ -120,8 +121,8 @@ impl DataSet {
             → IfErr result (λ e. FailsAfter all left e) }
         ensures names { (limit : ℕ) (all left : Option (List ℕ))
             → IfErr result (NamesNext limit all left) }
-        ensures never_ends { (limit old new : ℕ) (left others : Option (List ℕ))
-            → IfErr result (λ e. NeverEnds limit (Came left others old new) e) }
+        ensures never_ends { (limit : ℕ) (old new : Reader)
+            → IfErr result (λ e. NeverEnds limit (Came old new) e) }
     {
         let DataSetReader { kept, notes, .. } = records_read;
         if let Some(refusal) = kept.missing() {

@@ -29,14 +29,14 @@ impl Problems {
     /// Reads all problems of a data set, and its reader to the end. At most `limit` bytes and one
     /// more are fetched. Only 13, 14 and 90 are refusals.
     pub fn read<R: Source>(alloc: Global, reader: &mut R, limit: u64) -> Result<Problems, BaseFault>
-        ensures ok { IfOk result (HasProblems limit (R.left reader.old)) }
+        ensures ok { IfOk result (HasProblems limit (R.state reader.old).left) }
         ensures err { IfErr result (λ e. is_of_bytes e ≡ false) }
-        ensures no_failure { IfOk result (λ _. R.failures reader.new ≡ R.failures reader.old) }
+        ensures no_failure { IfOk result (λ _. (R.state reader.new).failures
+            ≡ (R.state reader.old).failures) }
         ensures failure { IfErr result
-            (λ e. FailsAs (R.failures reader.old) (R.failures reader.new) e) }
+            (λ e. FailsAs (R.state reader.old).failures (R.state reader.new).failures e) }
         ensures never_ends { IfErr result
-            (λ e. NeverEnds limit (Came (R.left reader.old) (R.left reader.new) (R.came reader.old)
-            (R.came reader.new)) e) }
+            (λ e. NeverEnds limit (Came (R.state reader.old) (R.state reader.new)) e) }
     {
         frames_are_one();
         let mut blocks = Records::new(limit);

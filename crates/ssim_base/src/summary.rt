@@ -1,6 +1,7 @@
 //! What a data set has, without its records.
 
 ghost use Rattle.std.specs.Prelude.{◌≡◌, ℕ, List, Option, IfOk, IfErr};
+ghost use Rattle.ssim_records.specs.Device.{Reader};
 ghost use Rattle.ssim_base.specs.Reading.{Came, FailsAs, NamesNext, NeverEnds, RefusesWhole};
 ghost use Rattle.ssim_base.specs.Summary.{IsSummary};
 
@@ -28,16 +29,16 @@ impl Summary {
     /// Reads what a data set has, record by record, and its reader to the end. At most `limit`
     /// bytes and one more are fetched. The refusals are those of `DataSet::read`.
     pub fn read<R: Source>(alloc: Global, reader: &mut R, limit: u64) -> Result<Summary, BaseFault>
-        ensures sums { IfOk result (IsSummary limit (R.left reader.old)) }
-        ensures refused { IfErr result (RefusesWhole limit (R.left reader.old)) }
-        ensures no_failure { IfOk result (λ _. R.failures reader.new ≡ R.failures reader.old) }
+        ensures sums { IfOk result (IsSummary limit (R.state reader.old).left) }
+        ensures refused { IfErr result (RefusesWhole limit (R.state reader.old).left) }
+        ensures no_failure { IfOk result (λ _. (R.state reader.new).failures
+            ≡ (R.state reader.old).failures) }
         ensures failure { IfErr result
-            (λ e. FailsAs (R.failures reader.old) (R.failures reader.new) e) }
+            (λ e. FailsAs (R.state reader.old).failures (R.state reader.new).failures e) }
         ensures names { IfErr result (λ e.
-            NamesNext limit (R.left reader.old) (R.left reader.new) e) }
+            NamesNext limit (R.state reader.old).left (R.state reader.new).left e) }
         ensures never_ends { IfErr result
-            (λ e. NeverEnds limit (Came (R.left reader.old) (R.left reader.new) (R.came reader.old)
-            (R.came reader.new)) e) }
+            (λ e. NeverEnds limit (Came (R.state reader.old) (R.state reader.new)) e) }
     {
         let mut records = 0;
         let (records_read, number) = read_whole(alloc, &mut records, reader, limit)?;
@@ -60,8 +61,8 @@ impl Summary {
         ensures failure { (n : ℕ) → IfErr result (λ e. FailsAs n n e) }
         ensures names { (limit : ℕ) (all left : Option (List ℕ))
             → IfErr result (NamesNext limit all left) }
-        ensures never_ends { (limit old new : ℕ) (left others : Option (List ℕ))
-            → IfErr result (λ e. NeverEnds limit (Came left others old new) e) }
+        ensures never_ends { (limit : ℕ) (old new : Reader)
+            → IfErr result (λ e. NeverEnds limit (Came old new) e) }
     {
         let DataSetReader { kept, notes, .. } = records_read;
         if let Some(refusal) = kept.missing() {

@@ -120,11 +120,7 @@ pub struct BrokenFile {
 }
 
 impl Source for BrokenFile {
-    ghost left = { λ _. None };
-
-    ghost came = { λ s. s.came };
-
-    ghost failures = { λ s. s.failures };
+    ghost state = { λ s. record { left = None; came = s.came; failures = s.failures } };
 
     fn fetch(&mut self, into: &mut [u8]) -> Result<usize, DeviceFault> {
         if self.room == 0 {

@@ -22,11 +22,7 @@ impl MemoryFile {
 }
 
 impl Source for MemoryFile {
-    ghost left = { λ f. Some (drop f.given f.bytes.items) };
-
-    ghost came = { λ _. 0 };
-
-    ghost failures = { λ _. 0 };
+    ghost state = { λ f. record { left = Some (drop f.given f.bytes.items); came = 0; failures = 0 } };
 
     fn fetch(&mut self, into: &mut [u8]) -> Result<usize, DeviceFault> {
         let given = self.given.min(self.bytes.len());

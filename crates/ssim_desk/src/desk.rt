@@ -88,14 +88,15 @@ impl Desk {
     /// the number of bytes before the first invalid element.
     pub fn open<R: Source>(alloc: Global, reader: &mut R, limit: u64) -> Result<Desk, DeskFault>
         ensures ok { IfOk result
-            (λ desk. Opens limit (R.left reader.old) desk.seen.base desk.seen.held) }
+            (λ desk. Opens limit (R.state reader.old).left desk.seen.base desk.seen.held) }
         ensures applied { IfOk result (λ desk. desk.seen.applied ≡ length desk.seen.held) }
-        ensures err { IfErr result (RefusesFile limit (R.left reader.old)) }
-        ensures no_failure { IfOk result (λ _. R.failures reader.new ≡ R.failures reader.old) }
+        ensures err { IfErr result (RefusesFile limit (R.state reader.old).left) }
+        ensures no_failure { IfOk result (λ _. (R.state reader.new).failures
+            ≡ (R.state reader.old).failures) }
         ensures failure { IfErr result
-            (λ e. FailsAs (R.failures reader.old) (R.failures reader.new) e) }
-        ensures never_ends { IfErr result (λ e. NeverEnds limit (Came (R.left reader.old)
-            (R.left reader.new) (R.came reader.old) (R.came reader.new)) e) }
+            (λ e. FailsAs (R.state reader.old).failures (R.state reader.new).failures e) }
+        ensures never_ends { IfErr result
+            (λ e. NeverEnds limit (Came (R.state reader.old) (R.state reader.new)) e) }
     {
         let holdings = Holdings::open(alloc, reader, limit)?;
         let desk = Desk::over(holdings)?;

@@ -92,18 +92,17 @@ fn read_file<R: Source>(
 ) -> Result<Opened, SavedFault>
     ensures limit { input.new.limit ≡ input.old.limit }
     ensures ok { IfOk result (λ desk. (bytes : List ℕ)
-        × Uses bytes input.old (R.left reader.old) input.new (R.left reader.new)
+        × Uses bytes input.old (R.state reader.old).left input.new (R.state reader.new).left
         × IsDeskFile bytes (base_with desk.data_set desk.stations) desk.held.items) }
     ensures within { OnOk result (input.new.came ≤ input.new.limit) }
-    ensures all { OnOk result ((input.new.held ≡ []) × IsAtEnd (R.left reader.new)) }
-    ensures err { IfErr result (λ e. IfInvalid e (IfSome (ahead input.old (R.left reader.old))
+    ensures all { OnOk result ((input.new.held ≡ []) × IsAtEnd (R.state reader.new).left) }
+    ensures err { IfErr result (λ e. IfInvalid e (IfSome (ahead input.old (R.state reader.old).left)
         (λ bytes. length bytes < 2 ^ 64 → (base : BaseSeen) (entries : List Entry)
         → IsDeskFile bytes base entries → ⊥))) }
-    ensures gives { OnOk result (Gives (R.left reader.old) (R.left reader.new)
-        (R.came reader.old) (R.came reader.new) (R.failures reader.old) (R.failures reader.new)
+    ensures gives { OnOk result (Gives (R.state reader.old) (R.state reader.new)
         input.old.came input.new.came) }
-    ensures stops { IfErr result (StopsSaved input.old.limit (R.left reader.old) (R.left reader.new)
-        (R.came reader.old) (R.came reader.new) (R.failures reader.old) (R.failures reader.new)
+    ensures stops { IfErr result (StopsSaved input.old.limit (R.state reader.old)
+        (R.state reader.new)
         input.old.came input.new.came) }
 {
     saved_records_are_read();
@@ -134,14 +133,15 @@ fn read_file<R: Source>(
 /// The errors are 90; 13 and 14, also if the reader fails or more bytes come than the limit after
 /// an element that is invalid; and 62 with the number of the bytes before the first such element.
 pub fn read_desk<R: Source>(alloc: Global, reader: &mut R, limit: u64) -> Result<Opened, DeskFault>
-    ensures ok { IfOk result (λ desk. Opens limit (R.left reader.old)
+    ensures ok { IfOk result (λ desk. Opens limit (R.state reader.old).left
         (base_with desk.data_set desk.stations) desk.held.items) }
-    ensures err { IfErr result (RefusesFile limit (R.left reader.old)) }
-    ensures no_failure { IfOk result (λ _. R.failures reader.new ≡ R.failures reader.old) }
+    ensures err { IfErr result (RefusesFile limit (R.state reader.old).left) }
+    ensures no_failure { IfOk result (λ _. (R.state reader.new).failures
+        ≡ (R.state reader.old).failures) }
     ensures failure { IfErr result
-        (λ e. FailsAs (R.failures reader.old) (R.failures reader.new) e) }
+        (λ e. FailsAs (R.state reader.old).failures (R.state reader.new).failures e) }
     ensures never_ends { IfErr result (λ e. NeverEnds limit
-        (Came (R.left reader.old) (R.left reader.new) (R.came reader.old) (R.came reader.new)) e) }
+        (Came (R.state reader.old) (R.state reader.new)) e) }
 {
     let mut input = InputBuffer::new(limit);
     match read_file(alloc, &mut input, reader) {

@@ -3,6 +3,7 @@ use Rattle.std.proofs.Common.{◌≡◌, inl, inr, ℕ, Option, Some, None, Resu
 use Rattle.std.specs.Prelude.{IfSome}
 use Rattle.ssim_held.specs.Entries.{DeskSeen}
 use Rattle.ssim_command_line.specs.Line.{Text}
+use Rattle.ssim_records.specs.Device.{Reader}
 use Rattle.ssim_program.specs.Desks.{RefusesDeskFile}
 use Rattle.ssim_program.specs.Files.{Files}
 use Rattle.ssim_program.specs.Made.{RefusesFile}
@@ -19,7 +20,8 @@ refuses_data_set files name (Ok desk) begins refuses = tt
 refuses_data_set files name (Err refusal) begins refuses = inr (inr (begins, refuses))
 
 -- a file of which the first bytes were looked at fails only as the file does
-pub unfailing : {F G : Type 0} (files : Option Files) (failures : F → ℕ) (reader : G → F) → IfSome files (λ all. (other : F) → failures other ≡ 0)
-    → IfSome files (λ all. (other : G) → failures (reader other) ≡ 0)
-unfailing None failures reader law = tt
-unfailing (Some all) failures reader law = λ other. law (reader other)
+pub unfailing : {F G : Type 0} (files : Option Files) (state : F → Reader) (reader : G → F)
+    → IfSome files (λ all. (other : F) → (state other).failures ≡ 0)
+    → IfSome files (λ all. (other : G) → (state (reader other)).failures ≡ 0)
+unfailing None state reader law = tt
+unfailing (Some all) state reader law = λ other. law (reader other)

@@ -4,7 +4,7 @@ use Rattle.std.specs.Prelude.{IfSome}
 use Rattle.ssim_records.specs.declared.fault.RecordFault.TheVariants.{Short, BadType, BadColumn, ReadFault, ReaderNeverEnds}
 use Rattle.ssim_records.specs.declared.record.Record.{Record}
 use Rattle.ssim_base.specs.Base.{Outcome}
-use Rattle.ssim_base.specs.Reading.{Came, FailsAs, IsReadAs, NeverEnds, RefusesWhole}
+use Rattle.ssim_base.specs.Reading.{HaveCome, FailsAs, IsReadAs, NeverEnds, RefusesWhole}
 use Rattle.ssim_base.specs.declared.fault.BaseFault.{BaseFault}
 use Rattle.ssim_base.specs.declared.fault.BaseFault.TheVariants as fault
 use Rattle.ssim_base.specs.declared.fault.BaseFault.TheVariants.{Read, Refused}
@@ -22,11 +22,6 @@ use Rattle.ssim_program.specs.declared.refusal.Refusal.TheVariants as refused
 abbrev pub Fails : Option Files → ℕ → Type 0
 Fails files failures = IfSome files (λ all. failures ≡ 0)
 
--- no file of a store fails, if the contract can see its files
-pub unfailing_at : {F : Type 0} (files : Option Files) (failures : F → ℕ) → IfSome files (λ all. (x : F) → failures x ≡ 0) → (x : F) → Fails files (failures x)
-unfailing_at None failures law x = tt
-unfailing_at (Some all) failures law x = law x
-
 -- the file was read to its end, and its bytes are refused
 pub reads_fault : (files : Option Files) (name : Text) (left : Option (List ℕ)) (e : BaseFault) → IsOpened files name left → RefusesWhole file_limit left e → IsUnread name e None
     → IsOfBytes e × ReadsFile files name (Err e)
@@ -42,12 +37,12 @@ some_is : (a b : Refusal) → Some a ≡ Some b → b ≡ a
 some_is a b e = cc
 
 -- a file that the contract can see has more bytes than the limit
-too_long : (files : Option Files) (name : Text) (left left' : Option (List ℕ)) (start now n : ℕ) → IsOpened files name left → file_limit < n → Came left left' start now n → IsMissing files name
+too_long : (files : Option Files) (name : Text) (left left' : Option (List ℕ)) (start now n : ℕ) → IsOpened files name left → file_limit < n → HaveCome left left' start now n → IsMissing files name
 too_long None name left left' start now n opened over came = tt
 too_long (Some all) name left left' start now n opened over came = subst (λ (o : Option (List ℕ)). IfSome o (λ bytes. file_limit < length bytes)) (sym opened.1)
     (longer left left' start now n opened.0 opened.2 over came)
   where
-    longer : (left left' : Option (List ℕ)) (start now n : ℕ) (bytes : List ℕ) → left ≡ Some bytes → file_limit < n → Came left left' start now n → file_limit < length bytes
+    longer : (left left' : Option (List ℕ)) (start now n : ℕ) (bytes : List ℕ) → left ≡ Some bytes → file_limit < n → HaveCome left left' start now n → file_limit < length bytes
     longer None left' start now n bytes is over came = absurd cc
     longer (Some x) None start now n bytes is over came = absurd came
     longer (Some x) (Some y) start now n bytes is over came =
@@ -56,7 +51,7 @@ too_long (Some all) name left left' start now n opened over came = subst (λ (o 
 
 -- a file that was not read to its end, or has more bytes than the limit
 pub refuses_unread : (files : Option Files) (name : Text) (left left' : Option (List ℕ)) (start now old new : ℕ) (e : BaseFault) (refusal : Refusal) → IsOpened files name left → Fails files old → Fails files new
-    → FailsAs old new e → NeverEnds file_limit (Came left left' start now) e → IsUnread name e (Some refusal) → RefusesLoad files name refusal
+    → FailsAs old new e → NeverEnds file_limit (HaveCome left left' start now) e → IsUnread name e (Some refusal) → RefusesLoad files name refusal
 refuses_unread files name left left' start now old new fault.Memory refusal opened before after failed over is = inl (some_is refused.Memory refusal (sym is))
 refuses_unread files name left left' start now old new (Read (Short n)) refusal opened before after failed over is = absurd cc
 refuses_unread files name left left' start now old new (Read (BadType n)) refusal opened before after failed over is = absurd cc
@@ -98,7 +93,7 @@ read_within files name (Err refusal) read fault = tt
 
 -- bytes within the limit, which are read without a failure, are refused for themselves
 pub bytes_refused : (bytes : List ℕ) (left' : Option (List ℕ)) (start now : ℕ) (e : BaseFault) → length bytes ≤ file_limit → RefusesWhole file_limit (Some bytes) e → FailsAs 0 0 e
-    → NeverEnds file_limit (Came (Some bytes) left' start now) e → (e ≡ fault.Memory) ⊎ (IsOfBytes e × IsReadAs file_limit bytes (Err e))
+    → NeverEnds file_limit (HaveCome (Some bytes) left' start now) e → (e ≡ fault.Memory) ⊎ (IsOfBytes e × IsReadAs file_limit bytes (Err e))
 bytes_refused bytes left' start now fault.Memory within whole failed over = inl refl
 bytes_refused bytes left' start now (Read (Short n)) within whole failed over = inr (tt, whole.0)
 bytes_refused bytes left' start now (Read (BadType n)) within whole failed over = inr (tt, whole.0)

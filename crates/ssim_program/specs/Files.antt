@@ -2,6 +2,7 @@
 use Rattle.std.specs.Prelude.{Vec, ◌≡◌, ◌<◌, ◌+◌, ◌%◌, ◌^◌, ℕ, IfSome, List, [], ◌∷◌, ⊤}
 use Rattle.std.specs.Prelude.{Option, Some, None, Result, Ok, Err, find, length, option_map}
 use Rattle.std.specs.Str.{bytes_eq}
+use Rattle.ssim_records.specs.Device.{Reader}
 use Rattle.ssim_program.specs.declared.store.StoreFault.{StoreFault}
 use Rattle.ssim_program.specs.declared.store.StoreFault.TheVariants as fault
 
@@ -27,13 +28,12 @@ IsOpened None name left = ⊤
 IsOpened (Some all) name left =
     (bytes : List ℕ) × (file_of all name ≡ Some bytes) × (left ≡ Some bytes)
 
--- the file of this name is opened, or there is none; `left` has the bytes that a file has to give
-abbrev pub OpensFile : {F : Type 0} → (F → Option (List ℕ)) → Option Files → List ℕ
-    → Result F StoreFault
+-- the file of this name is opened, or there is none
+abbrev pub OpensFile : {F : Type 0} → (F → Reader) → Option Files → List ℕ → Result F StoreFault
     → Type 0
-OpensFile left files name (Ok file) = IsOpened files name (left file)
-OpensFile left files name (Err fault.Memory) = ⊤
-OpensFile left files name (Err fault.Fault) =
+OpensFile state files name (Ok file) = IsOpened files name (state file).left
+OpensFile state files name (Err fault.Memory) = ⊤
+OpensFile state files name (Err fault.Fault) =
     IfSome files (λ all. IfSome (file_of all name) (λ bytes. ⊥))
 
 -- a file that is kept comes first; after a fault the files are as they were

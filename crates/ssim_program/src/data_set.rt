@@ -48,7 +48,7 @@ pub(crate) fn open_file<S: Store>(
     store: &mut S,
 ) -> Result<S::File, Refusal>
     ensures opened { IfOk result
-        (λ file. IsOpened (S.files store.old) name.now (S.File.left file)) }
+        (λ file. IsOpened (S.files store.old) name.now (S.File.state file).left) }
     ensures refused { IfErr result (RefusesLoad (S.files store.old) name.now) }
     ensures same { S.files store.new ≡ S.files store.old }
     ensures counted { S.failures store.new ≡ S.failures store.old }
@@ -101,13 +101,13 @@ pub(crate) fn read_opened<F: Source + Drop>(
     name: &str,
     mut file: F,
 ) -> Result<Result<DataSet, BaseFault>, Refusal>
-    ensures read { (files : Option Files) → IsOpened files name.now (F.left file)
+    ensures read { (files : Option Files) → IsOpened files name.now (F.state file).left
         → IfOk result (λ read. IfOk read
         (λ set. (notes : List Note) × ReadsFile files name.now (Ok (set, notes)))) }
-    ensures fault { (files : Option Files) → IsOpened files name.now (F.left file)
+    ensures fault { (files : Option Files) → IsOpened files name.now (F.state file).left
         → IfOk result (λ read. IfErr read (λ e. IsOfBytes e × ReadsFile files name.now (Err e))) }
-    ensures refused { (files : Option Files) → IsOpened files name.now (F.left file)
-        → IfSome files (λ _. (other : F) → F.failures other ≡ 0)
+    ensures refused { (files : Option Files) → IsOpened files name.now (F.state file).left
+        → IfSome files (λ _. (other : F) → (F.state other).failures ≡ 0)
         → IfErr result (RefusesLoad files name.now) }
 {
     match DataSet::read(alloc, &mut file, LIMIT) {

@@ -36,10 +36,10 @@ pub(crate) fn read_desk<F: Source + Drop>(
     name: &str,
     mut file: F,
 ) -> Result<Holdings, Refusal>
-    ensures read { (files : Option Files) → IsOpened files name.now (F.left file)
+    ensures read { (files : Option Files) → IsOpened files name.now (F.state file).left
         → IfOk result (ReadsDesk files name.now) }
-    ensures refused { (files : Option Files) → IsOpened files name.now (F.left file)
-        → IfSome files (λ _. (other : F) → F.failures other ≡ 0)
+    ensures refused { (files : Option Files) → IsOpened files name.now (F.state file).left
+        → IfSome files (λ _. (other : F) → (F.state other).failures ≡ 0)
         → IfErr result (RefusesDeskFile files name.now) }
 {
     match Holdings::open(alloc, &mut file, LIMIT) {

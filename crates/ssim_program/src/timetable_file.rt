@@ -34,10 +34,10 @@ pub(crate) fn open_timetable<S: Store>(
 /// The desk whose timetable a file has that was opened under this name: a desk file if it begins as
 /// one, and else a data set.
 fn read_timetable<F: Source + Drop>(alloc: Global, name: &str, file: F) -> Result<Holdings, Refusal>
-    ensures read { (files : Option Files) → IsOpened files name.now (F.left file)
+    ensures read { (files : Option Files) → IsOpened files name.now (F.state file).left
         → IfOk result (ReadsTimetable files name.now) }
-    ensures refused { (files : Option Files) → IsOpened files name.now (F.left file)
-        → IfSome files (λ _. (other : F) → F.failures other ≡ 0)
+    ensures refused { (files : Option Files) → IsOpened files name.now (F.state file).left
+        → IfSome files (λ _. (other : F) → (F.state other).failures ≡ 0)
         → IfErr result (RefusesTimetable files name.now) }
 {
     let mut file = LookedAt::new(file);
@@ -50,10 +50,10 @@ fn read_timetable<F: Source + Drop>(alloc: Global, name: &str, file: F) -> Resul
 
 /// The desk of the data set in a file that was opened under this name.
 fn read_data_set<F: Source + Drop>(alloc: Global, name: &str, file: F) -> Result<Holdings, Refusal>
-    ensures read { (files : Option Files) → IsOpened files name.now (F.left file)
+    ensures read { (files : Option Files) → IsOpened files name.now (F.state file).left
         → IfOk result (ReadsAsDesk files name.now) }
-    ensures refused { (files : Option Files) → IsOpened files name.now (F.left file)
-        → IfSome files (λ _. (other : F) → F.failures other ≡ 0)
+    ensures refused { (files : Option Files) → IsOpened files name.now (F.state file).left
+        → IfSome files (λ _. (other : F) → (F.state other).failures ≡ 0)
         → IfErr result (RefusesFile files name.now) }
 {
     match read_opened(alloc, name, file) {

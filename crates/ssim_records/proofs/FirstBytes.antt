@@ -4,7 +4,7 @@ use Rattle.std.specs.List.{copy_within}
 use Rattle.std.specs.Io.KnownBytes.{Consumes, prepend_known}
 use Rattle.std.proofs.lemmas.List.{drop-take, length-take-le, take-append-drop, take-append-le, take-take, take_at}
 use borrow.Rule.Slice.PartMut.{put_mid, post_of}
-use Rattle.ssim_records.specs.Device.{CountsBytes}
+use Rattle.ssim_records.specs.Device.{CountChanges}
 use Rattle.ssim_records.proofs.Windows.{take_through}
 
 -- the bytes that are held after a fetch
@@ -16,7 +16,7 @@ held_more bytes got len n room within few =
 
 -- the bytes that are held, and then those that are left, stay the same
 pub left_same : (held held' got : List ℕ) (old new : Option (List ℕ)) (came came' n : ℕ) → held' ≡ held ++ got
-    → Consumes old new got → CountsBytes old new came came' (Ok n) → prepend_known held' new ≡ prepend_known held old
+    → Consumes old new got → CountChanges old new came came' (Ok n) → prepend_known held' new ≡ prepend_known held old
 left_same held held' got None None came came' n is consumes counts = refl
 left_same held held' got None (Some ys) came came' n is consumes counts = absurd counts
 left_same held held' got (Some xs) None came came' n is consumes counts = absurd consumes

@@ -9,9 +9,9 @@ use Rattle.std.proofs.lemmas.Bool.Decides.{nat_tests}
 use Rattle.ssim_records.specs.declared.blocks.Stop.{Stop}
 use Rattle.ssim_records.specs.declared.blocks.Stop.TheVariants.{Short, ReadFault, ReaderNeverEnds}
 use Rattle.ssim_records.specs.declared.device.DeviceFault.{DeviceFault}
-use Rattle.ssim_records.specs.Device.{CountsBytes}
+use Rattle.ssim_records.specs.Device.{CountChanges}
 use Rattle.ssim_records.specs.Frames.{trim, Frames, others, is_fill}
-use Rattle.ssim_records.specs.Blocks.{CameOn, SameAhead, CountsOn, Fetches, Takes}
+use Rattle.ssim_records.specs.Blocks.{CameOn, SameAhead, CountGoesOn, Fetches, Takes}
 use Rattle.ssim_records.specs.internal.Blocks.{NextBlock, GivesBlock, GivesOther, Ahead}
 use Rattle.ssim_records.proofs.LineEnds.{trim_front, trim_pass, trim_twice, trim_less}
 use Rattle.ssim_columns.proofs.lemmas.Slices.{same_front, same_back}
@@ -148,7 +148,7 @@ came_same (Some x) None l2 held came0 came h same is = absurd h
 came_same (Some x) (Some y) None held came0 came h same is = same
 came_same (Some x) (Some y) (Some z) held came0 came h same is = omega (arith, h, is, ap length same, length-append held z)
 
-pub counts_on : (l0 l1 l2 : Option (List ℕ)) (r0 r1 r2 came0 came n : ℕ) → CountsOn l0 l1 r0 r1 came0 came → CountsBytes l1 l2 r1 r2 (Ok n) → CountsOn l0 l2 r0 r2 came0 (came + n)
+pub counts_on : (l0 l1 l2 : Option (List ℕ)) (r0 r1 r2 came0 came n : ℕ) → CountGoesOn l0 l1 r0 r1 came0 came → CountChanges l1 l2 r1 r2 (Ok n) → CountGoesOn l0 l2 r0 r2 came0 (came + n)
 counts_on (Some x) l1 l2 r0 r1 r2 came0 came n h k = tt
 counts_on None (Some x) l2 r0 r1 r2 came0 came n h k = absurd h
 counts_on None None (Some x) r0 r1 r2 came0 came n h k = k
@@ -159,17 +159,17 @@ counts_on None None None r0 r1 r2 came0 came n h k =
     let d : (r0 + came) + n ≡ r0 + (came + n) = omega arith in
     a ∙ ap (λ (x : ℕ). x % 2 ^ 128) b ∙ c ∙ ap (λ (x : ℕ). x % 2 ^ 128) d
 
-pub counts_same : (l0 l1 l2 : Option (List ℕ)) (r0 r1 r2 came0 came : ℕ) (e : DeviceFault) → CountsOn l0 l1 r0 r1 came0 came → CountsBytes l1 l2 r1 r2 (Err e) → CountsOn l0 l2 r0 r2 came0 came
+pub counts_same : (l0 l1 l2 : Option (List ℕ)) (r0 r1 r2 came0 came : ℕ) (e : DeviceFault) → CountGoesOn l0 l1 r0 r1 came0 came → CountChanges l1 l2 r1 r2 (Err e) → CountGoesOn l0 l2 r0 r2 came0 came
 counts_same (Some x) l1 l2 r0 r1 r2 came0 came e h k = tt
 counts_same None (Some x) l2 r0 r1 r2 came0 came e h k = absurd h
 counts_same None None (Some x) r0 r1 r2 came0 came e h k = k
 counts_same None None None r0 r1 r2 came0 came e h k = ap (λ (x : ℕ). (x + came0) % 2 ^ 128) k ∙ h
 
-pub counts_none : (l : Option (List ℕ)) (r came : ℕ) → CountsOn l l r r came came
+pub counts_none : (l : Option (List ℕ)) (r came : ℕ) → CountGoesOn l l r r came came
 counts_none (Some x) r came = tt
 counts_none None r came = refl
 
-pub counts_twice : (l0 l1 l2 : Option (List ℕ)) (r0 r1 r2 came0 came1 came2 : ℕ) → CountsOn l0 l1 r0 r1 came0 came1 → CountsOn l1 l2 r1 r2 came1 came2 → CountsOn l0 l2 r0 r2 came0 came2
+pub counts_twice : (l0 l1 l2 : Option (List ℕ)) (r0 r1 r2 came0 came1 came2 : ℕ) → CountGoesOn l0 l1 r0 r1 came0 came1 → CountGoesOn l1 l2 r1 r2 came1 came2 → CountGoesOn l0 l2 r0 r2 came0 came2
 counts_twice (Some x) l1 l2 r0 r1 r2 came0 came1 came2 h k = tt
 counts_twice None (Some x) l2 r0 r1 r2 came0 came1 came2 h k = absurd h
 counts_twice None None (Some x) r0 r1 r2 came0 came1 came2 h k = k

@@ -4,11 +4,11 @@ use Rattle.std.proofs.Common.{◌≡◌, ℕ, ◌+◌, List, [], ◌++◌, lengt
 use Rattle.std.specs.Io.KnownBytes.{Consumes}
 use Rattle.std.proofs.lemmas.List.{length-append, take-append-drop}
 use Rattle.ssim_records.specs.Blocks.{CameOn, SameAhead}
-use Rattle.ssim_records.specs.Device.{CountsBytes}
+use Rattle.ssim_records.specs.Device.{CountsBytes, Reader}
 use Rattle.ssim_records.specs.InputBuffer.{Gives, Input, Stops, Uses, ahead}
 use Rattle.ssim_records.specs.declared.input_buffer.InputFault.{InputFault}
 use Rattle.ssim_records.specs.declared.input_buffer.InputFault.TheVariants.{ReadFault, ReaderNeverEnds}
-use Rattle.ssim_records.proofs.Framing.{counts_none, counts_on, counts_twice}
+use Rattle.ssim_records.proofs.Framing.{came_none, counts_none, counts_on, counts_twice}
 
 -- ---- what is used
 
@@ -57,30 +57,32 @@ uses_skipped b n left = record {
 
 -- ---- what the reader gives
 
-came_none : (l : Option (List ℕ)) (came : ℕ) → CameOn l l came came
-came_none None came = tt
-came_none (Some x) came = refl
-
 came_then : (l0 l1 l2 : Option (List ℕ)) (a b c : ℕ) → CameOn l0 l1 a b → CameOn l1 l2 b c → CameOn l0 l2 a c
 came_then None l1 l2 a b c h k = tt
 came_then (Some x) None l2 a b c h k = absurd h
 came_then (Some x) (Some y) None a b c h k = k
 came_then (Some x) (Some y) (Some z) a b c h k = k ∙ h
 
-pub gives_none : (l : Option (List ℕ)) (r f came : ℕ) → Gives l l r r f f came came
-gives_none l r f came = record { total = came_none l came; counts = counts_none l r came; no_failure = refl }
+pub gives_none : (r : Reader) (came : ℕ) → Gives r r came came
+gives_none r came = record {
+  total = came_none r.left came;
+  counts = counts_none r.left r.came came;
+  no_failure = refl;
+}
 
-pub gives_then : (l0 l1 l2 : Option (List ℕ)) (r0 r1 r2 f0 f1 f2 a b c : ℕ) → Gives l0 l1 r0 r1 f0 f1 a b → Gives l1 l2 r1 r2 f1 f2 b c → Gives l0 l2 r0 r2 f0 f2 a c
-gives_then l0 l1 l2 r0 r1 r2 f0 f1 f2 a b c h k = record {
-  total = came_then l0 l1 l2 a b c h.total k.total;
-  counts = counts_twice l0 l1 l2 r0 r1 r2 a b c h.counts k.counts;
+pub gives_then : (r0 r1 r2 : Reader) (a b c : ℕ)
+    → Gives r0 r1 a b → Gives r1 r2 b c → Gives r0 r2 a c
+gives_then r0 r1 r2 a b c h k = record {
+  total = came_then r0.left r1.left r2.left a b c h.total k.total;
+  counts = counts_twice r0.left r1.left r2.left r0.came r1.came r2.came a b c h.counts k.counts;
   no_failure = k.no_failure ∙ h.no_failure;
 }
 
 -- a fault after what the reader gave
-pub stops_then : (limit : ℕ) (l0 l1 l2 : Option (List ℕ)) (r0 r1 r2 f0 f1 f2 a b : ℕ) (e : InputFault) → Gives l0 l1 r0 r1 f0 f1 a b → Stops limit l1 l2 r1 r2 f1 f2 b e → Stops limit l0 l2 r0 r2 f0 f2 a e
-stops_then limit l0 l1 l2 r0 r1 r2 f0 f1 f2 a b ReadFault h k = rw (← h.no_failure) k
-stops_then limit l0 l1 l2 r0 r1 r2 f0 f1 f2 a b ReaderNeverEnds h k = gives_then l0 l1 l2 r0 r1 r2 f0 f1 f2 a b (limit + 1) h k
+pub stops_then : (limit : ℕ) (r0 r1 r2 : Reader) (a b : ℕ) (e : InputFault)
+    → Gives r0 r1 a b → Stops limit r1 r2 b e → Stops limit r0 r2 a e
+stops_then limit r0 r1 r2 a b ReadFault h k = rw (← h.no_failure) k
+stops_then limit r0 r1 r2 a b ReaderNeverEnds h k = gives_then r0 r1 r2 a b (limit + 1) h k
 
 came_fetched : (held held' : List ℕ) (came n : ℕ) (l0 l1 : Option (List ℕ)) → SameAhead held l0 held' l1 → length held' ≡ length held + n → CameOn l0 l1 came (came + n)
 came_fetched held held' came n None l1 h long = tt
@@ -88,10 +90,12 @@ came_fetched held held' came n (Some x) None h long = h
 came_fetched held held' came n (Some x) (Some y) h long = omega (arith, ap length h, length-append held x, length-append held' y, long)
 
 -- fetched bytes came
-pub gives_fetched : (held held' : List ℕ) (came n : ℕ) (l0 l1 : Option (List ℕ)) (r0 r1 f0 f1 : ℕ) → SameAhead held l0 held' l1 → length held' ≡ length held + n → CountsBytes l0 l1 r0 r1 (Ok n) → f1 ≡ f0
-    → Gives l0 l1 r0 r1 f0 f1 came (came + n)
-gives_fetched held held' came n l0 l1 r0 r1 f0 f1 h long counted none = record {
-  total = came_fetched held held' came n l0 l1 h long;
-  counts = counts_on l0 l0 l1 r0 r0 r1 came came n (counts_none l0 r0 came) counted;
+pub gives_fetched : (held held' : List ℕ) (came n : ℕ) (r0 r1 : Reader)
+    → SameAhead held r0.left held' r1.left → length held' ≡ length held + n
+    → CountsBytes r0 r1 (Ok n) → r1.failures ≡ r0.failures → Gives r0 r1 came (came + n)
+gives_fetched held held' came n r0 r1 h long counted none = record {
+  total = came_fetched held held' came n r0.left r1.left h long;
+  counts = counts_on r0.left r0.left r1.left r0.came r0.came r1.came came came n
+      (counts_none r0.left r0.came came) counted;
   no_failure = none;
 }

@@ -1,5 +1,6 @@
 -- What the steps of framing do with the bytes that are held and those that a reader has left.
 use Rattle.std.specs.Prelude.{ℕ, ◌≡◌, ◌+◌, ◌-◌, ◌%◌, ◌^◌, Bool, true, List, [], ◌∷◌, ◌++◌, length, Option, Some, None}
+use Rattle.ssim_records.specs.Device.{Reader}
 use Rattle.ssim_records.specs.Frames.{trim}
 
 -- No byte is lost or added: the held bytes followed by the reader's remaining bytes stay the same.
@@ -37,8 +38,12 @@ CameOn None left' came came' = Unit {0}
 CameOn (Some left) None came came' = ⊥
 CameOn (Some left) (Some left') came came' = came' + length left' ≡ came + length left
 
+-- If the bytes left are not known, the count of a source went on by the bytes that came.
+abbrev pub CountGoesOn : Option (List ℕ) → Option (List ℕ) → ℕ → ℕ → ℕ → ℕ → Type 0
+CountGoesOn (Some left) left' old new came came' = Unit {0}
+CountGoesOn None (Some left) old new came came' = ⊥
+CountGoesOn None None old new came came' = (new + came) % 2 ^ 128 ≡ (old + came') % 2 ^ 128
+
 -- A source that does not report its bytes has counted the bytes that came.
-abbrev pub CountsOn : Option (List ℕ) → Option (List ℕ) → ℕ → ℕ → ℕ → ℕ → Type 0
-CountsOn (Some left) left' old new came came' = Unit {0}
-CountsOn None (Some left) old new came came' = ⊥
-CountsOn None None old new came came' = (new + came) % 2 ^ 128 ≡ (old + came') % 2 ^ 128
+abbrev pub CountsOn : Reader → Reader → ℕ → ℕ → Type 0
+CountsOn old new came came' = CountGoesOn old.left new.left old.came new.came came came'

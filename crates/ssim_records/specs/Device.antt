@@ -2,13 +2,25 @@
 use Rattle.std.specs.Prelude.{ℕ, ◌≡◌, ◌+◌, ◌%◌, ◌^◌, ◌==◌, ◌&&◌, nat_lt, if◌then◌else◌, List, length, Option, Some, None, Result, Ok, Err}
 use Rattle.ssim_records.specs.declared.device.DeviceFault.{DeviceFault}
 
+-- What a contract knows of a source: the bytes that are left, if the source reports them; the
+-- number of bytes that came, if it does not, which wraps at 2^128; and the number of fetches that
+-- failed, which wraps at 2^64.
+pub record Reader : Type 0 where
+  pub left : Option (List ℕ)
+  pub came : ℕ
+  pub failures : ℕ
+
+-- If the bytes left are not known, the count of a source changes by the bytes of a fetch.
+abbrev pub CountChanges : Option (List ℕ) → Option (List ℕ) → ℕ → ℕ → Result ℕ DeviceFault → Type 0
+CountChanges (Some bytes) left old new result = Unit {0}
+CountChanges None (Some bytes) old new result = ⊥
+CountChanges None None old new (Ok n) = new ≡ (old + n) % 2 ^ 128
+CountChanges None None old new (Err e) = new ≡ old
+
 -- A source that reports its bytes counts nothing. A source that does not, and never will, counts
 -- the bytes that came, and the count wraps.
-abbrev pub CountsBytes : Option (List ℕ) → Option (List ℕ) → ℕ → ℕ → Result ℕ DeviceFault → Type 0
-CountsBytes (Some bytes) left old new result = Unit {0}
-CountsBytes None (Some bytes) old new result = ⊥
-CountsBytes None None old new (Ok n) = new ≡ (old + n) % 2 ^ 128
-CountsBytes None None old new (Err e) = new ≡ old
+abbrev pub CountsBytes : Reader → Reader → Result ℕ DeviceFault → Type 0
+CountsBytes old new result = CountChanges old.left new.left old.came new.came result
 
 -- a failure is counted, and the count wraps
 abbrev pub CountsFailure : ℕ → ℕ → Result ℕ DeviceFault → Type 0

@@ -6,9 +6,8 @@ use Rattle.std.specs.Str.{bytes_eq}
 abbrev pub drop_line_ends : List ℕ → List ℕ
 drop_line_ends [] = []
 drop_line_ends (b ∷ []) = if b == 10 then [] else b ∷ []
-drop_line_ends (b ∷ c ∷ bs) =
-    if b == 10 then drop_line_ends (c ∷ bs) else if b == 13 && c == 10 then drop_line_ends bs
-    else b ∷ c ∷ bs
+drop_line_ends (b ∷ c ∷ bs) = if b == 10 then drop_line_ends (c ∷ bs) else if b == 13 && c == 10
+    then drop_line_ends bs else b ∷ c ∷ bs
 
 -- the bytes without the line ends that they begin with, if they come after a block; else all of
 -- them
@@ -37,14 +36,12 @@ is_fill block = bytes_eq block fill
 -- the blocks that are not fill, with their numbers; `number` blocks came before them
 abbrev pub others : ℕ → List (List ℕ) → List (ℕ × List ℕ)
 others number [] = []
-others number (block ∷ blocks) =
-    if is_fill block then others (number + 1) blocks
+others number (block ∷ blocks) = if is_fill block then others (number + 1) blocks
     else (number + 1, block) ∷ others (number + 1) blocks
 
 -- Any bytes have frames.
 abbrev pub FramesExist : Type 0
-FramesExist =
-    (over : ℕ) (after_block : Bool) (bytes : List ℕ) → (blocks : List (List ℕ))
+FramesExist = (over : ℕ) (after_block : Bool) (bytes : List ℕ) → (blocks : List (List ℕ))
     × ((rest : List ℕ) × Frames over after_block bytes blocks rest)
 
 -- Bytes have only one list of blocks and one rest.

@@ -2,6 +2,7 @@
 use Rattle.std.specs.Prelude.{ℕ, ◌≡◌, ◌+◌, ◌%◌, ◌^◌, List, ◌++◌, length, Option, Some, None}
 use Rattle.std.specs.Io.KnownBytes.{Consumes}
 use Rattle.ssim_records.specs.Blocks.{CameOn, CountsOn}
+use Rattle.ssim_records.specs.Device.{Reader}
 use Rattle.ssim_records.specs.declared.input_buffer.InputFault.{InputFault}
 use Rattle.ssim_records.specs.declared.input_buffer.InputFault.TheVariants.{ReadFault, ReaderNeverEnds}
 
@@ -24,15 +25,12 @@ pub record Uses (used : List ℕ) (old : Input) (left : Option (List ℕ)) (new 
   pub counted : new.came + length old.held ≡ old.came + length used + length new.held
 
 -- The reader did not fail, and the number of bytes that came went from one to the other.
-pub record Gives (left left' : Option (List ℕ))
-    (counted counted' failures failures' came came' : ℕ) : Type 0 where
-  pub total : CameOn left left' came came'
-  pub counts : CountsOn left left' counted counted' came came'
-  pub no_failure : failures' ≡ failures
+pub record Gives (old new : Reader) (came came' : ℕ) : Type 0 where
+  pub total : CameOn old.left new.left came came'
+  pub counts : CountsOn old new came came'
+  pub no_failure : new.failures ≡ old.failures
 
 -- The reader failed, which is counted, and the count wraps; or one byte more came than the limit.
-abbrev pub Stops : ℕ → Option (List ℕ) → Option (List ℕ) → ℕ → ℕ → ℕ → ℕ → ℕ → InputFault → Type 0
-Stops limit left left' counted counted' failures failures' came ReadFault =
-    failures' ≡ (failures + 1) % 2 ^ 64
-Stops limit left left' counted counted' failures failures' came ReaderNeverEnds =
-    Gives left left' counted counted' failures failures' came (limit + 1)
+abbrev pub Stops : ℕ → Reader → Reader → ℕ → InputFault → Type 0
+Stops limit old new came ReadFault = new.failures ≡ (old.failures + 1) % 2 ^ 64
+Stops limit old new came ReaderNeverEnds = Gives old new came (limit + 1)

@@ -1,5 +1,6 @@
 -- Reading the records of a stream: what is ahead, and what each call returns.
 use Rattle.std.specs.Prelude.{ℕ, ◌≡◌, ◌+◌, ◌*◌, ◌%◌, ◌^◌, ◌<◌, ◌≤◌, List, [], ◌∷◌, ◌++◌, length, nat_lt, ⊤, Option, Some, None, Result, Ok, Err}
+use Rattle.ssim_records.specs.Device.{Reader}
 use Rattle.ssim_records.specs.declared.fault.RecordFault.{RecordFault}
 use Rattle.ssim_records.specs.declared.fault.RecordFault.TheVariants.{Short, BadType, BadColumn, ReadFault, ReaderNeverEnds}
 use Rattle.ssim_records.specs.declared.record.Record.{Record}
@@ -136,14 +137,15 @@ NeverEnds new (Err fault) = Unit {0}
 -- The reader's failures are counted while the rest is skipped: one more if the fault is 13, else
 -- none. If the fault is 14, one byte more came than the limit. There is no other fault, and it
 -- names the record after those that were counted.
-abbrev pub RestFails : Reading → ℕ → ℕ → Result ⊤ RecordFault → Type 0
-RestFails r old new (Ok x) = new ≡ old
+abbrev pub RestFails : Reading → Reader → Reader → Result ⊤ RecordFault → Type 0
+RestFails r old new (Ok x) = new.failures ≡ old.failures
 RestFails r old new (Err (Short n)) = ⊥
 RestFails r old new (Err (BadType n)) = ⊥
 RestFails r old new (Err (BadColumn n column)) = ⊥
-RestFails r old new (Err (ReadFault n)) = (n ≡ r.number + 1) × (new ≡ (old + 1) % 2 ^ 64)
+RestFails r old new (Err (ReadFault n)) =
+    (n ≡ r.number + 1) × (new.failures ≡ (old.failures + 1) % 2 ^ 64)
 RestFails r old new (Err (ReaderNeverEnds n)) =
-    (n ≡ r.number + 1) × (new ≡ old) × (r.came ≡ r.limit + 1)
+    (n ≡ r.number + 1) × (new.failures ≡ old.failures) × (r.came ≡ r.limit + 1)
 
 -- what each call returns after the end
 abbrev pub last_answer : Ending → Answer

@@ -43,18 +43,18 @@ fn next_block<R: Source>(
     ensures came { came.new ≤ limit + 1 }
     ensures held { length window.new + came.old ≤ length window.old + came.new }
     ensures long { result ≡ Ok true → 200 ≤ length window.new }
-    ensures block { GivesBlock limit after_block came.old window.old (R.left reader.old) came.new
-        (behind_front result window.new) (R.left reader.new) (with_front window.new result) }
+    ensures block { GivesBlock limit after_block came.old window.old (R.state reader.old).left
+        came.new (behind_front result window.new) (R.state reader.new).left
+        (with_front window.new result) }
     ensures never_ends { result ≡ Err ReaderNeverEnds
         → (limit < came.new) × (length window.new ≤ 200) }
-    ensures fetched { Fetches after_block 0 window.old (R.left reader.old)
+    ensures fetched { Fetches after_block 0 window.old (R.state reader.old).left
         (block_count (with_front window.new result)) (behind_front result window.new)
-        (R.left reader.new) }
+        (R.state reader.new).left }
     ensures few_left { HoldsFew window.new (with_front window.new result) }
-    ensures fault { FailsOnce (R.failures reader.old) (R.failures reader.new)
+    ensures fault { FailsOnce (R.state reader.old).failures (R.state reader.new).failures
         (with_front window.new result) }
-    ensures count { CountsOn (R.left reader.old) (R.left reader.new) (R.came reader.old)
-        (R.came reader.new) came.old came.new }
+    ensures count { CountsOn (R.state reader.old) (R.state reader.new) came.old came.new }
 {
     loop {
         window.trim(after_block);
@@ -106,18 +106,17 @@ pub fn next_other<R: Source>(
     ensures counted { 200 * number.new + length (behind_front result window.new) ≤ came.new }
     ensures more { result ≡ Ok true → number.old < number.new }
     ensures long { result ≡ Ok true → 200 ≤ length window.new }
-    ensures block { GivesOther limit number.old came.old window.old (R.left reader.old) number.new
-        came.new (behind_front result window.new) (R.left reader.new)
+    ensures block { GivesOther limit number.old came.old window.old (R.state reader.old).left
+        number.new came.new (behind_front result window.new) (R.state reader.new).left
         (with_front window.new result) }
     ensures never_ends { result ≡ Err ReaderNeverEnds
         → (limit < came.new) × (length window.new ≤ 200) }
-    ensures fetched { Fetches (nat_lt 0 number.old) number.old window.old (R.left reader.old)
-        number.new (behind_front result window.new) (R.left reader.new) }
+    ensures fetched { Fetches (nat_lt 0 number.old) number.old window.old (R.state reader.old).left
+        number.new (behind_front result window.new) (R.state reader.new).left }
     ensures few_left { HoldsFew window.new (with_front window.new result) }
-    ensures fault { FailsOnce (R.failures reader.old) (R.failures reader.new)
+    ensures fault { FailsOnce (R.state reader.old).failures (R.state reader.new).failures
         (with_front window.new result) }
-    ensures count { CountsOn (R.left reader.old) (R.left reader.new) (R.came reader.old)
-        (R.came reader.new) came.old came.new }
+    ensures count { CountsOn (R.state reader.old) (R.state reader.new) came.old came.new }
 {
     loop {
         let more = next_block(window, came, limit, *number > 0, reader)?;
@@ -143,12 +142,11 @@ pub fn skip_rest<R: Source>(
     ensures came { came.new ≤ limit + 1 }
     ensures more { came.old ≤ came.new }
     ensures held { length window.new ≡ 0 }
-    ensures end { OnOk result (IsAtEnd (R.left reader.new) × (came.new ≤ limit)) }
-    ensures fault { FailsAtRest limit came.new (R.failures reader.old) (R.failures reader.new)
-        result }
-    ensures total { CameOn (R.left reader.old) (R.left reader.new) came.old came.new }
-    ensures count { CountsOn (R.left reader.old) (R.left reader.new) (R.came reader.old)
-        (R.came reader.new) came.old came.new }
+    ensures end { OnOk result (IsAtEnd (R.state reader.new).left × (came.new ≤ limit)) }
+    ensures fault { FailsAtRest limit came.new (R.state reader.old).failures
+        (R.state reader.new).failures result }
+    ensures total { CameOn (R.state reader.old).left (R.state reader.new).left came.old came.new }
+    ensures count { CountsOn (R.state reader.old) (R.state reader.new) came.old came.new }
 {
     loop {
         window.clear();

@@ -3,7 +3,7 @@
 ghost use Rattle.std.specs.Prelude.{◌≡◌, List, ℕ, Option, Some, Ok, length, min};
 ghost use Rattle.std.specs.Io.{ReadsAtMost, WritesAtMost};
 ghost use Rattle.std.specs.Io.KnownBytes.{ReadConsumes, WriteAppends};
-ghost use Rattle.ssim_records.specs.Device.{CountsBytes, CountsFailure, CountsPut};
+ghost use Rattle.ssim_records.specs.Device.{CountsBytes, CountsFailure, CountsPut, Reader};
 
 use thiserror::Error;
 
@@ -24,22 +24,16 @@ pub enum DeviceFault {
 
 /// A device that bytes come from. A fetch that returns 0 into a buffer with room is the end.
 pub trait Source {
-    /// The bytes that are left, if the contract knows them.
-    ghost left: { Self → Option (List ℕ) };
-
-    /// The number of bytes that came, if the contract does not know them. It wraps at 2^128.
-    ghost came: { Self → ℕ };
-
-    /// The number of fetches that failed. It wraps at 2^64.
-    ghost failures: { Self → ℕ };
+    /// The bytes that are left, if the contract knows them; if not, the number of bytes that came;
+    /// and the number of fetches that failed.
+    ghost state: { Self → Reader };
 
     /// Writes the next bytes to the beginning of `into`, and returns their number.
     fn fetch(&mut self, into: &mut [u8]) -> Result<usize, DeviceFault>
         ensures bound { ReadsAtMost result into.new }
-        ensures bytes { ReadConsumes (left self.old) (left self.new) result into.new }
-        ensures count { CountsBytes (left self.old) (left self.new) (came self.old) (came self.new)
-            result }
-        ensures failures { CountsFailure (failures self.old) (failures self.new) result };
+        ensures bytes { ReadConsumes (state self.old).left (state self.new).left result into.new }
+        ensures count { CountsBytes (state self.old) (state self.new) result }
+        ensures failures { CountsFailure (state self.old).failures (state self.new).failures result };
 }
 
 /// A device that bytes go to.
@@ -66,11 +60,7 @@ pub trait Sink {
 
 /// A slice gives its bytes in order, and never fails.
 impl<'a> Source for &'a [u8] {
-    ghost left = { λ s. Some s.now };
-
-    ghost came = { λ _. 0 };
-
-    ghost failures = { λ _. 0 };
+    ghost state = { λ s. record { left = Some s.now; came = 0; failures = 0 } };
 
     fn fetch(&mut self, into: &mut [u8]) -> Result<usize, DeviceFault>
         ensures bound { ReadsAtMost result into.new }

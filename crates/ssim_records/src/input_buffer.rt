@@ -98,15 +98,13 @@ impl InputBuffer {
         requires { length self.old.held < 65536 }
         ensures limit { self.new.limit ≡ self.old.limit }
         ensures within { self.new.came ≤ self.new.limit }
-        ensures uses { OnOk result (Uses [] self.old (R.left reader.old) self.new
-            (R.left reader.new)) }
-        ensures end { result ≡ Ok 0 → IsAtEnd (R.left reader.new) }
+        ensures uses { OnOk result (Uses [] self.old (R.state reader.old).left self.new
+            (R.state reader.new).left) }
+        ensures end { result ≡ Ok 0 → IsAtEnd (R.state reader.new).left }
         ensures more { IfOk result (λ n. self.new.came ≡ self.old.came + n) }
-        ensures gives { OnOk result (Gives (R.left reader.old) (R.left reader.new)
-            (R.came reader.old) (R.came reader.new) (R.failures reader.old) (R.failures reader.new)
-            self.old.came self.new.came) }
-        ensures stops { IfErr result (Stops self.old.limit (R.left reader.old) (R.left reader.new)
-            (R.came reader.old) (R.came reader.new) (R.failures reader.old) (R.failures reader.new)
+        ensures gives { OnOk result (Gives (R.state reader.old) (R.state reader.new) self.old.came
+            self.new.came) }
+        ensures stops { IfErr result (Stops self.old.limit (R.state reader.old) (R.state reader.new)
             self.old.came) }
     {
         let room = self.limit - self.came;
@@ -131,16 +129,14 @@ impl InputBuffer {
         requires within { self.old.came ≤ self.old.limit }
         ensures limit { self.new.limit ≡ self.old.limit }
         ensures within { self.new.came ≤ self.new.limit }
-        ensures uses { OnOk result (Uses [] self.old (R.left reader.old) self.new
-            (R.left reader.new)) }
+        ensures uses { OnOk result (Uses [] self.old (R.state reader.old).left self.new
+            (R.state reader.new).left) }
         ensures held { result ≡ Ok true → count ≤ length self.new.held }
         ensures end { result ≡ Ok false → (length self.new.held < count)
-            × IsAtEnd (R.left reader.new) }
-        ensures gives { OnOk result (Gives (R.left reader.old) (R.left reader.new)
-            (R.came reader.old) (R.came reader.new) (R.failures reader.old) (R.failures reader.new)
-            self.old.came self.new.came) }
-        ensures stops { IfErr result (Stops self.old.limit (R.left reader.old) (R.left reader.new)
-            (R.came reader.old) (R.came reader.new) (R.failures reader.old) (R.failures reader.new)
+            × IsAtEnd (R.state reader.new).left }
+        ensures gives { OnOk result (Gives (R.state reader.old) (R.state reader.new) self.old.came
+            self.new.came) }
+        ensures stops { IfErr result (Stops self.old.limit (R.state reader.old) (R.state reader.new)
             self.old.came) }
     {
         while self.len() < count {
@@ -160,16 +156,14 @@ impl InputBuffer {
         requires { count ≤ 65536 }
         ensures limit { self.new.limit ≡ self.old.limit }
         ensures within { self.new.came ≤ self.new.limit }
-        ensures uses { OnOk result (Uses [] self.old (R.left reader.old) self.new
-            (R.left reader.new)) }
+        ensures uses { OnOk result (Uses [] self.old (R.state reader.old).left self.new
+            (R.state reader.new).left) }
         ensures held { result ≡ Ok true → count ≤ length self.new.held }
         ensures end { result ≡ Ok false → (length self.new.held < count)
-            × IsAtEnd (R.left reader.new) }
-        ensures gives { OnOk result (Gives (R.left reader.old) (R.left reader.new)
-            (R.came reader.old) (R.came reader.new) (R.failures reader.old) (R.failures reader.new)
-            self.old.came self.new.came) }
-        ensures stops { IfErr result (Stops self.old.limit (R.left reader.old) (R.left reader.new)
-            (R.came reader.old) (R.came reader.new) (R.failures reader.old) (R.failures reader.new)
+            × IsAtEnd (R.state reader.new).left }
+        ensures gives { OnOk result (Gives (R.state reader.old) (R.state reader.new) self.old.came
+            self.new.came) }
+        ensures stops { IfErr result (Stops self.old.limit (R.state reader.old) (R.state reader.new)
             self.old.came) }
     {
         if self.window.len() >= count {
@@ -184,12 +178,10 @@ impl InputBuffer {
     pub fn skip_rest<R: Source>(&mut self, reader: &mut R) -> Result<(), InputFault>
         ensures limit { self.new.limit ≡ self.old.limit }
         ensures within { self.new.came ≤ self.new.limit }
-        ensures end { OnOk result (IsAtEnd (R.left reader.new)) }
-        ensures gives { OnOk result (Gives (R.left reader.old) (R.left reader.new)
-            (R.came reader.old) (R.came reader.new) (R.failures reader.old) (R.failures reader.new)
-            self.old.came self.new.came) }
-        ensures stops { IfErr result (Stops self.old.limit (R.left reader.old) (R.left reader.new)
-            (R.came reader.old) (R.came reader.new) (R.failures reader.old) (R.failures reader.new)
+        ensures end { OnOk result (IsAtEnd (R.state reader.new).left) }
+        ensures gives { OnOk result (Gives (R.state reader.old) (R.state reader.new) self.old.came
+            self.new.came) }
+        ensures stops { IfErr result (Stops self.old.limit (R.state reader.old) (R.state reader.new)
             self.old.came) }
     {
         loop {

@@ -49,11 +49,12 @@ impl Beginning {
 
     /// Fetches the next bytes of the reader, as many as there is room for.
     fn fetch<R: Source>(&mut self, reader: &mut R) -> Result<usize, DeviceFault>
-        ensures left { prepend_known self.new (R.left reader.new)
-            ≡ prepend_known self.old (R.left reader.old) }
+        ensures left { prepend_known self.new (R.state reader.new).left
+            ≡ prepend_known self.old (R.state reader.old).left }
         ensures ok { IfOk result (λ n. length self.new ≡ length self.old + n) }
-        ensures end { result ≡ Ok 0 → length self.old < 9 → IsAtEnd (R.left reader.new) }
-        ensures failures { CountsFailure (R.failures reader.old) (R.failures reader.new) result }
+        ensures end { result ≡ Ok 0 → length self.old < 9 → IsAtEnd (R.state reader.new).left }
+        ensures failures { CountsFailure (R.state reader.old).failures (R.state reader.new).failures
+            result }
     {
         let n = reader.fetch(&mut self.bytes[self.len..])?;
         self.len += n;
@@ -101,20 +102,21 @@ impl<R: Source> LookedAt<R> {
 
     /// Whether the bytes that are left begin with these. None of them is given by this.
     pub fn begins_with(&mut self, bytes: &[u8; 9]) -> Result<bool, DeviceFault>
-        ensures left { prepend_known self.new.first (R.left self.new.reader)
-            ≡ prepend_known self.old.first (R.left self.old.reader) }
+        ensures left { prepend_known self.new.first (R.state self.new.reader).left
+            ≡ prepend_known self.old.first (R.state self.old.reader).left }
         ensures came { self.new.came ≡ self.old.came }
 
         // If the contract knows the bytes that are left, the result is about these.
         ensures begins { IfOk result (λ begins. IfSome
-            (prepend_known self.old.first (R.left self.old.reader))
+            (prepend_known self.old.first (R.state self.old.reader).left)
             (λ left. begins ≡ starts_with nat_eq left bytes.now)) }
 
         // An error is a failure of the reader.
         ensures no_failure { OnOk result
-            (R.failures self.new.reader ≡ R.failures self.old.reader) }
+            ((R.state self.new.reader).failures ≡ (R.state self.old.reader).failures) }
         ensures failure { OnErr result
-            (R.failures self.new.reader ≡ (R.failures self.old.reader + 1) % 2 ^ 64) }
+            ((R.state self.new.reader).failures
+            ≡ ((R.state self.old.reader).failures + 1) % 2 ^ 64) }
     {
         self.look()?;
         Ok(self.first.bytes().starts_with(bytes))
@@ -122,15 +124,16 @@ impl<R: Source> LookedAt<R> {
 
     // Fetches until nine bytes are held, or the reader ends.
     fn look(&mut self) -> Result<(), DeviceFault>
-        ensures left { prepend_known self.new.first (R.left self.new.reader)
-            ≡ prepend_known self.old.first (R.left self.old.reader) }
+        ensures left { prepend_known self.new.first (R.state self.new.reader).left
+            ≡ prepend_known self.old.first (R.state self.old.reader).left }
         ensures came { self.new.came ≡ self.old.came }
         ensures seen { OnOk result
-            ((9 ≤ length self.new.first) ⊎ IsAtEnd (R.left self.new.reader)) }
+            ((9 ≤ length self.new.first) ⊎ IsAtEnd (R.state self.new.reader).left) }
         ensures no_failure { OnOk result
-            (R.failures self.new.reader ≡ R.failures self.old.reader) }
+            ((R.state self.new.reader).failures ≡ (R.state self.old.reader).failures) }
         ensures failure { OnErr result
-            (R.failures self.new.reader ≡ (R.failures self.old.reader + 1) % 2 ^ 64) }
+            ((R.state self.new.reader).failures
+            ≡ ((R.state self.old.reader).failures + 1) % 2 ^ 64) }
     {
         while self.first.bytes().len() < SEEN {
             let n = self.first.fetch(&mut self.reader)?;
@@ -145,11 +148,11 @@ impl<R: Source> LookedAt<R> {
 /// The bytes that were looked at come first, and then those that the reader has left. A failure is
 /// one of the reader.
 impl<R: Source> Source for LookedAt<R> {
-    ghost left = { λ s. prepend_known s.first (R.left s.reader) };
-
-    ghost came = { λ s. s.came };
-
-    ghost failures = { λ s. R.failures s.reader };
+    ghost state = { λ s. record {
+      left = prepend_known s.first (R.state s.reader).left;
+      came = s.came;
+      failures = (R.state s.reader).failures;
+    } };
 
     fn fetch(&mut self, into: &mut [u8]) -> Result<usize, DeviceFault> {
         let n = if self.first.bytes().is_empty() {

@@ -89,17 +89,18 @@ impl Records {
         into: &mut Option<Record>,
     ) -> Result<u64, RecordFault>
         ensures limit { self.new.limit ≡ self.old.limit }
-        ensures record { GivesNext self.old (R.left reader.old) self.new (R.left reader.new)
-            (given into.new result) }
+        ensures record { GivesNext self.old (R.state reader.old).left self.new
+            (R.state reader.new).left (given into.new result) }
         ensures number { HasNumber self.new.number (given into.new result) }
         ensures counts { Counts self.old self.new (given into.new result) }
         ensures never_ends { NeverEnds self.new (given into.new result) }
-        ensures fetched { FetchesNext self.old (R.left reader.old) self.new (R.left reader.new) }
+        ensures fetched { FetchesNext self.old (R.state reader.old).left self.new
+            (R.state reader.new).left }
         ensures few_left { HoldsFew self.new.held (given into.new result) }
-        ensures fault { FailsAs (R.failures reader.old) (R.failures reader.new)
+        ensures fault { FailsAs (R.state reader.old).failures (R.state reader.new).failures
             (given into.new result) }
-        ensures count { CountsOn (R.left reader.old) (R.left reader.new) (R.came reader.old)
-            (R.came reader.new) self.old.came self.new.came }
+        ensures count { CountsOn (R.state reader.old) (R.state reader.new) self.old.came
+            self.new.came }
         ensures returned { IfOk result (λ number. number ≡ self.new.number) }
     {
         match next_other(
@@ -156,7 +157,7 @@ impl Records {
         // If the contract knows the reader's bytes, the result is the next record of the bytes
         // ahead.
         ensures record { IfNone self.old.ended
-            (GivesNext self.old (R.left reader.old) self.new (R.left reader.new)
+            (GivesNext self.old (R.state reader.old).left self.new (R.state reader.new).left
             (given into.new result)) }
         ensures number { IfNone self.old.ended (HasNumber self.new.number (given into.new result)) }
         ensures counts { IfNone self.old.ended (Counts self.old self.new (given into.new result)) }
@@ -164,17 +165,17 @@ impl Records {
         // The counted records, and then the held bytes, are the bytes that came. At 13 the held
         // bytes are too few for a record.
         ensures fetched { IfNone self.old.ended
-            (FetchesNext self.old (R.left reader.old) self.new (R.left reader.new)) }
+            (FetchesNext self.old (R.state reader.old).left self.new (R.state reader.new).left) }
         ensures few_left { IfNone self.old.ended (HoldsFew self.new.held (given into.new result)) }
 
         // 13 is returned if the reader failed, 14 after the limit. The bytes that came are those of
         // the reader.
         ensures fault { IfNone self.old.ended
-            (FailsAs (R.failures reader.old) (R.failures reader.new) (given into.new result)) }
+            (FailsAs (R.state reader.old).failures (R.state reader.new).failures
+            (given into.new result)) }
         ensures never_ends { IfNone self.old.ended (NeverEnds self.new (given into.new result)) }
         ensures count { IfNone self.old.ended
-            (CountsOn (R.left reader.old) (R.left reader.new) (R.came reader.old)
-            (R.came reader.new) self.old.came self.new.came) }
+            (CountsOn (R.state reader.old) (R.state reader.new) self.old.came self.new.came) }
         ensures returned { IfOk result (λ number. number ≡ self.new.number) }
     {
         match self.ended {
@@ -211,24 +212,24 @@ impl Records {
         // If the contract knows the reader's bytes, the result is the next record of the bytes
         // ahead.
         ensures record { IfNone self.old.ended
-            (GivesNext self.old (R.left reader.old) self.new (R.left reader.new) result) }
+            (GivesNext self.old (R.state reader.old).left self.new (R.state reader.new).left
+            result) }
         ensures number { IfNone self.old.ended (HasNumber self.new.number result) }
         ensures counts { IfNone self.old.ended (Counts self.old self.new result) }
 
         // The counted records, and then the held bytes, are the bytes that came. At 13 the held
         // bytes are too few for a record.
         ensures fetched { IfNone self.old.ended
-            (FetchesNext self.old (R.left reader.old) self.new (R.left reader.new)) }
+            (FetchesNext self.old (R.state reader.old).left self.new (R.state reader.new).left) }
         ensures few_left { IfNone self.old.ended (HoldsFew self.new.held result) }
 
         // 13 is returned if the reader failed, 14 after the limit. The bytes that came are those of
         // the reader.
         ensures fault { IfNone self.old.ended
-            (FailsAs (R.failures reader.old) (R.failures reader.new) result) }
+            (FailsAs (R.state reader.old).failures (R.state reader.new).failures result) }
         ensures never_ends { IfNone self.old.ended (NeverEnds self.new result) }
         ensures count { IfNone self.old.ended
-            (CountsOn (R.left reader.old) (R.left reader.new) (R.came reader.old)
-            (R.came reader.new) self.old.came self.new.came) }
+            (CountsOn (R.state reader.old) (R.state reader.new) self.old.came self.new.came) }
     {
         let mut record = None;
         let number = self.next_into(reader, &mut record)?;
@@ -241,15 +242,15 @@ impl Records {
     // Returns what `next_block` returns before the end.
     fn block<R: Source>(&mut self, reader: &mut R) -> Result<Option<(u64, [u8; 200])>, RecordFault>
         ensures limit { self.new.limit ≡ self.old.limit }
-        ensures record { GivesNextBlock self.old (R.left reader.old) self.new (R.left reader.new)
-            result }
+        ensures record { GivesNextBlock self.old (R.state reader.old).left self.new
+            (R.state reader.new).left result }
         ensures counts { CountsBlock self.old self.new result }
         ensures number { HasNumber self.new.number (without_block result) }
         ensures never_ends { NeverEnds self.new (without_block result) }
-        ensures fault { FailsAs (R.failures reader.old) (R.failures reader.new)
+        ensures fault { FailsAs (R.state reader.old).failures (R.state reader.new).failures
             (without_block result) }
-        ensures count { CountsOn (R.left reader.old) (R.left reader.new) (R.came reader.old)
-            (R.came reader.new) self.old.came self.new.came }
+        ensures count { CountsOn (R.state reader.old) (R.state reader.new) self.old.came
+            self.new.came }
         ensures stops { IfErr result IsNoBlockFault }
     {
         match next_other(
@@ -296,7 +297,8 @@ impl Records {
         // If the contract knows the reader's bytes, the result is the next block of the bytes
         // ahead.
         ensures record { IfNone self.old.ended
-            (GivesNextBlock self.old (R.left reader.old) self.new (R.left reader.new) result) }
+            (GivesNextBlock self.old (R.state reader.old).left self.new (R.state reader.new).left
+            result) }
         ensures counts { IfNone self.old.ended (CountsBlock self.old self.new result) }
         ensures number { IfNone self.old.ended (HasNumber self.new.number (without_block result)) }
 
@@ -304,11 +306,11 @@ impl Records {
         // bytes that came are those of the reader.
         ensures stops { IfNone self.old.ended (IfErr result IsNoBlockFault) }
         ensures fault { IfNone self.old.ended
-            (FailsAs (R.failures reader.old) (R.failures reader.new) (without_block result)) }
+            (FailsAs (R.state reader.old).failures (R.state reader.new).failures
+            (without_block result)) }
         ensures never_ends { IfNone self.old.ended (NeverEnds self.new (without_block result)) }
         ensures count { IfNone self.old.ended
-            (CountsOn (R.left reader.old) (R.left reader.new) (R.came reader.old)
-            (R.came reader.new) self.old.came self.new.came) }
+            (CountsOn (R.state reader.old) (R.state reader.new) self.old.came self.new.came) }
     {
         match self.ended {
             Some(Ending::End) => return Ok(None),
@@ -330,13 +332,15 @@ impl Records {
     pub fn skip_rest<R: Source>(&mut self, reader: &mut R) -> Result<(), RecordFault>
         ensures limit { self.new.limit ≡ self.old.limit }
         ensures number { self.new.number ≡ self.old.number }
-        ensures end { OnOk result (IsAtEnd (R.left reader.new) × (self.new.came ≤ self.new.limit)) }
-        ensures fault { RestFails self.new (R.failures reader.old) (R.failures reader.new) result }
+        ensures end { OnOk result (IsAtEnd (R.state reader.new).left
+            × (self.new.came ≤ self.new.limit)) }
+        ensures fault { RestFails self.new (R.state reader.old) (R.state reader.new) result }
 
         // The bytes that came are those of the reader.
-        ensures total { CameOn (R.left reader.old) (R.left reader.new) self.old.came self.new.came }
-        ensures count { CountsOn (R.left reader.old) (R.left reader.new) (R.came reader.old)
-            (R.came reader.new) self.old.came self.new.came }
+        ensures total { CameOn (R.state reader.old).left (R.state reader.new).left self.old.came
+            self.new.came }
+        ensures count { CountsOn (R.state reader.old) (R.state reader.new) self.old.came
+            self.new.came }
     {
         match skip_rest(&mut self.window, &mut self.came, self.limit, reader) {
             Ok(()) => Ok(()),

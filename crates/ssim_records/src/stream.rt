@@ -3,7 +3,7 @@
 ghost use Rattle.std.specs.Prelude.{◌≡◌, None};
 ghost use Rattle.std.specs.Io.{ReadsAtMost, WritesAtMost};
 ghost use Rattle.std.specs.Io.KnownBytes.{ReadConsumes, WriteAppends};
-ghost use Rattle.ssim_records.specs.Device.{CountsBytes, CountsFailure, CountsPut};
+ghost use Rattle.ssim_records.specs.Device.{CountChanges, CountsFailure, CountsPut};
 
 use crate::device::{DeviceFault, Sink, Source};
 use std::io::{Read, Write};
@@ -32,15 +32,11 @@ impl<R: Read> Input<R> {
 }
 
 impl<R: Read> Source for Input<R> {
-    ghost left = { λ _. None };
-
-    ghost came = { λ s. s.came };
-
-    ghost failures = { λ s. s.failures };
+    ghost state = { λ s. record { left = None; came = s.came; failures = s.failures } };
 
     fn fetch(&mut self, into: &mut [u8]) -> Result<usize, DeviceFault>
         ensures bound { ReadsAtMost result into.new }
-        ensures count { CountsBytes None None self.old.came self.new.came result }
+        ensures count { CountChanges None None self.old.came self.new.came result }
         ensures failures { CountsFailure self.old.failures self.new.failures result }
 
         // If the contract knows the reader's bytes, these are given.

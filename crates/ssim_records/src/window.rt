@@ -152,12 +152,13 @@ impl Window {
         requires some { 0 < most }
         ensures ok { IfOk result (λ n. (n ≤ most) × (length self.new ≡ length self.old + n)) }
         ensures err { OnErr result (length self.new ≡ length self.old) }
-        ensures ahead { SameAhead self.old (R.left reader.old) self.new (R.left reader.new) }
-        ensures end { result ≡ Ok 0 → IsAtEnd (R.left reader.new) }
+        ensures ahead { SameAhead self.old (R.state reader.old).left self.new
+            (R.state reader.new).left }
+        ensures end { result ≡ Ok 0 → IsAtEnd (R.state reader.new).left }
         ensures none { result ≡ Ok 0 → self.new ≡ self.old }
-        ensures count { CountsBytes (R.left reader.old) (R.left reader.new) (R.came reader.old)
-            (R.came reader.new) result }
-        ensures failures { CountsFailure (R.failures reader.old) (R.failures reader.new) result }
+        ensures count { CountsBytes (R.state reader.old) (R.state reader.new) result }
+        ensures failures { CountsFailure (R.state reader.old).failures (R.state reader.new).failures
+            result }
     {
         self.bytes.copy_within(self.start..self.end, 0);
         self.end -= self.start;

@@ -65,11 +65,7 @@ struct Endless {
 }
 
 impl Source for Endless {
-    ghost left = { λ _. None };
-
-    ghost came = { λ s. s.came };
-
-    ghost failures = { λ _. 0 };
+    ghost state = { λ s. record { left = None; came = s.came; failures = 0 } };
 
     fn fetch(&mut self, into: &mut [u8]) -> Result<usize, DeviceFault> {
         let column = (self.came % 201) as usize;

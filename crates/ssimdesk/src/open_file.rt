@@ -67,11 +67,7 @@ impl<F: Read, I: Read> Reader<F, I> {
 }
 
 impl<F: Read, I: Read> Source for OpenFile<F, I> {
-    ghost left = { λ _. None };
-
-    ghost came = { λ s. s.came };
-
-    ghost failures = { λ s. s.failures };
+    ghost state = { λ s. record { left = None; came = s.came; failures = s.failures } };
 
     fn fetch(&mut self, into: &mut [u8]) -> Result<usize, DeviceFault> {
         match self.reader.read_on(into) {

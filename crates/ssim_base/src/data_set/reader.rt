@@ -108,21 +108,21 @@ pub(crate) fn read_records<R: Source, L: RecordSink>(
     requires unread { blocks.old ≡ unread blocks.old.limit }
     requires limit { blocks.old.limit < 2 ^ 64 }
     ensures ok { IfOk result (λ read.
-        HasRead blocks.old.limit (R.left reader.old) (L.has records.new) read.0 read.1) }
-    ensures err { IfErr result (λ e. Refuses blocks.old.limit (R.left reader.old) e) }
-    ensures no_failure { IfOk result (λ _. R.failures reader.new ≡ R.failures reader.old) }
+        HasRead blocks.old.limit (R.state reader.old).left (L.has records.new) read.0 read.1) }
+    ensures err { IfErr result (λ e. Refuses blocks.old.limit (R.state reader.old).left e) }
+    ensures no_failure { IfOk result (λ _. (R.state reader.new).failures
+        ≡ (R.state reader.old).failures) }
     ensures failure { IfErr result
-        (λ e. FailsAs (R.failures reader.old) (R.failures reader.new) e) }
-    ensures fails_after { IfErr result (λ e. FailsAfter (R.left reader.old) (R.left reader.new) e) }
+        (λ e. FailsAs (R.state reader.old).failures (R.state reader.new).failures e) }
+    ensures fails_after { IfErr result
+        (λ e. FailsAfter (R.state reader.old).left (R.state reader.new).left e) }
     ensures never_ends { IfErr result
-        (λ e. NeverEnds blocks.old.limit
-        (Came (R.left reader.old) (R.left reader.new) (R.came reader.old) (R.came reader.new)) e) }
+        (λ e. NeverEnds blocks.old.limit (Came (R.state reader.old) (R.state reader.new)) e) }
     ensures next { IfErr result (λ e.
         is_of_bytes e ≡ true → IsRecordAfter e (blocks.new.number + 1)) }
     ensures limit { IfErr result (λ _. blocks.new.limit ≡ blocks.old.limit) }
     ensures came { IfErr result (λ _.
-        Came (R.left reader.old) (R.left reader.new) (R.came reader.old) (R.came reader.new)
-        blocks.new.came) }
+        Came (R.state reader.old) (R.state reader.new) blocks.new.came) }
 {
     frames_are_one();
     let mut records_read = DataSetReader::new(alloc);
@@ -152,15 +152,16 @@ pub(crate) fn read_whole<R: Source, L: RecordSink>(
 ) -> Result<(DataSetReader, u64), BaseFault>
     requires { L.has records.old [] }
     ensures ok { IfOk result (λ read.
-        HasRead limit (R.left reader.old) (L.has records.new) read.0 read.1) }
-    ensures err { IfErr result (RefusesWhole limit (R.left reader.old)) }
-    ensures no_failure { IfOk result (λ _. R.failures reader.new ≡ R.failures reader.old) }
+        HasRead limit (R.state reader.old).left (L.has records.new) read.0 read.1) }
+    ensures err { IfErr result (RefusesWhole limit (R.state reader.old).left) }
+    ensures no_failure { IfOk result (λ _. (R.state reader.new).failures
+        ≡ (R.state reader.old).failures) }
     ensures failure { IfErr result
-        (λ e. FailsAs (R.failures reader.old) (R.failures reader.new) e) }
-    ensures names { IfErr result (λ e. NamesNext limit (R.left reader.old) (R.left reader.new) e) }
+        (λ e. FailsAs (R.state reader.old).failures (R.state reader.new).failures e) }
+    ensures names { IfErr result (λ e.
+        NamesNext limit (R.state reader.old).left (R.state reader.new).left e) }
     ensures never_ends { IfErr result
-        (λ e. NeverEnds limit (Came (R.left reader.old) (R.left reader.new) (R.came reader.old)
-        (R.came reader.new)) e) }
+        (λ e. NeverEnds limit (Came (R.state reader.old) (R.state reader.new)) e) }
 {
     let mut blocks = Records::new(limit);
     match read_records(alloc, records, &mut blocks, reader) {

@@ -113,18 +113,16 @@ fn next_line<R: Source>(
     into: &mut Option<Record>,
 ) -> Result<bool, InputFault>
     ensures limit { input.new.limit ≡ input.old.limit }
-    ensures uses { OnOk result (Uses [] input.old (R.left reader.old) input.new
-        (R.left reader.new)) }
+    ensures uses { OnOk result (Uses [] input.old (R.state reader.old).left input.new
+        (R.state reader.new).left) }
     ensures some { result ≡ Ok true → (201 ≤ length input.new.held)
         × IsLineOf into.new (take 201 input.new.held) [] }
     ensures none { result ≡ Ok false
-        → IfSome (ahead input.new (R.left reader.new)) (λ bytes. (r : Record) (rest : List ℕ)
+        → IfSome (ahead input.new (R.state reader.new).left) (λ bytes. (r : Record) (rest : List ℕ)
         → IsLine r bytes rest → ⊥) }
-    ensures gives { OnOk result (Gives (R.left reader.old) (R.left reader.new) (R.came reader.old)
-        (R.came reader.new) (R.failures reader.old) (R.failures reader.new) input.old.came
+    ensures gives { OnOk result (Gives (R.state reader.old) (R.state reader.new) input.old.came
         input.new.came) }
-    ensures stops { IfErr result (Stops input.old.limit (R.left reader.old) (R.left reader.new)
-        (R.came reader.old) (R.came reader.new) (R.failures reader.old) (R.failures reader.new)
+    ensures stops { IfErr result (Stops input.old.limit (R.state reader.old) (R.state reader.new)
         input.old.came) }
 {
     if !input.has(reader, RECORD_LINE)? {
@@ -150,18 +148,17 @@ pub fn read_saved<R: Source>(
     reader: &mut R,
 ) -> Result<DataSet, SavedFault>
     ensures ok { IfOk result (λ read. IsBaseRecords read × (length read ≡ count)
-        × Uses (saved read) input.old (R.left reader.old) input.new (R.left reader.new)) }
-    ensures err { IfErr result (RefusesLines count (ahead input.old (R.left reader.old))) }
+        × Uses (saved read) input.old (R.state reader.old).left input.new
+        (R.state reader.new).left) }
+    ensures err { IfErr result (RefusesLines count (ahead input.old (R.state reader.old).left)) }
     ensures offset { IfErr result (IsAfterUsed input.new) }
     ensures limit { input.new.limit ≡ input.old.limit }
 
     // What the reader gave, and whether it failed.
-    ensures gives { OnOk result (Gives (R.left reader.old) (R.left reader.new) (R.came reader.old)
-        (R.came reader.new) (R.failures reader.old) (R.failures reader.new) input.old.came
+    ensures gives { OnOk result (Gives (R.state reader.old) (R.state reader.new) input.old.came
         input.new.came) }
-    ensures stops { IfErr result (StopsSaved input.old.limit (R.left reader.old) (R.left reader.new)
-        (R.came reader.old) (R.came reader.new) (R.failures reader.old) (R.failures reader.new)
-        input.old.came input.new.came) }
+    ensures stops { IfErr result (StopsSaved input.old.limit (R.state reader.old)
+        (R.state reader.new) input.old.came input.new.came) }
 {
     let mut kept = Acceptance::new(alloc);
     let mut records = Vec::new(alloc);

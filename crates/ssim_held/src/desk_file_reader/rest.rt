@@ -18,15 +18,14 @@ pub(crate) fn read_rest<R: Source>(
 ) -> Result<Vec<u8>, SavedFault>
     ensures limit { input.new.limit ≡ input.old.limit }
     ensures ok { IfOk result (λ bytes.
-        Uses bytes.items input.old (R.left reader.old) input.new (R.left reader.new)) }
+        Uses bytes.items input.old (R.state reader.old).left input.new (R.state reader.new).left) }
     ensures within { OnOk result (input.new.came ≤ input.new.limit) }
-    ensures all { OnOk result ((input.new.held ≡ []) × IsAtEnd (R.left reader.new)) }
+    ensures all { OnOk result ((input.new.held ≡ []) × IsAtEnd (R.state reader.new).left) }
     ensures err { IfErr result IsNotInvalid }
-    ensures gives { OnOk result (Gives (R.left reader.old) (R.left reader.new)
-        (R.came reader.old) (R.came reader.new) (R.failures reader.old) (R.failures reader.new)
+    ensures gives { OnOk result (Gives (R.state reader.old) (R.state reader.new)
         input.old.came input.new.came) }
-    ensures stops { IfErr result (StopsSaved input.old.limit (R.left reader.old) (R.left reader.new)
-        (R.came reader.old) (R.came reader.new) (R.failures reader.old) (R.failures reader.new)
+    ensures stops { IfErr result (StopsSaved input.old.limit (R.state reader.old)
+        (R.state reader.new)
         input.old.came input.new.came) }
 {
     let mut bytes = Vec::new(alloc);

@@ -23,15 +23,15 @@ fn take_line<R: Source>(
     ensures limit { input.new.limit ≡ input.old.limit }
     ensures some { IfOk result (λ read. IfSome read (λ line. (text : List ℕ)
         × (from 10 text ≡ []) × (line.items ≡ text ++ 10 ∷ [])
-        × Uses line.items input.old (R.left reader.old) input.new (R.left reader.new))) }
+        × Uses line.items input.old (R.state reader.old).left input.new
+        (R.state reader.new).left)) }
     ensures none { IfOk result (λ read. IfNone read
-        (IfSome (ahead input.old (R.left reader.old)) (λ bytes. from 10 bytes ≡ []))) }
+        (IfSome (ahead input.old (R.state reader.old).left) (λ bytes. from 10 bytes ≡ []))) }
     ensures err { IfErr result IsNotInvalid }
-    ensures gives { OnOk result (Gives (R.left reader.old) (R.left reader.new)
-        (R.came reader.old) (R.came reader.new) (R.failures reader.old) (R.failures reader.new)
+    ensures gives { OnOk result (Gives (R.state reader.old) (R.state reader.new)
         input.old.came input.new.came) }
-    ensures stops { IfErr result (StopsSaved input.old.limit (R.left reader.old) (R.left reader.new)
-        (R.came reader.old) (R.came reader.new) (R.failures reader.old) (R.failures reader.new)
+    ensures stops { IfErr result (StopsSaved input.old.limit (R.state reader.old)
+        (R.state reader.new)
         input.old.came input.new.came) }
 {
     let mut line = Vec::new(alloc);
@@ -69,17 +69,16 @@ fn take_count<R: Source>(
 ) -> Result<Option<Count>, SavedFault>
     ensures limit { input.new.limit ≡ input.old.limit }
     ensures some { IfOk result (λ read. IfSome read (λ count. IfSome count (λ n.
-        Uses (counted (codes "RECORDS") n) input.old (R.left reader.old)
-        input.new (R.left reader.new)))) }
-    ensures only { IfOk result (λ read. IfSome (ahead input.old (R.left reader.old)) (λ bytes.
+        Uses (counted (codes "RECORDS") n) input.old (R.state reader.old).left
+        input.new (R.state reader.new).left))) }
+    ensures only { IfOk result (λ read. IfSome (ahead input.old (R.state reader.old).left) (λ bytes.
         (n : ℕ) (later : List ℕ) → n < 2 ^ 64 → bytes ≡ counted (codes "RECORDS") n ++ later
         → read ≡ Some (Some n))) }
     ensures err { IfErr result IsNotInvalid }
-    ensures gives { OnOk result (Gives (R.left reader.old) (R.left reader.new)
-        (R.came reader.old) (R.came reader.new) (R.failures reader.old) (R.failures reader.new)
+    ensures gives { OnOk result (Gives (R.state reader.old) (R.state reader.new)
         input.old.came input.new.came) }
-    ensures stops { IfErr result (StopsSaved input.old.limit (R.left reader.old) (R.left reader.new)
-        (R.came reader.old) (R.came reader.new) (R.failures reader.old) (R.failures reader.new)
+    ensures stops { IfErr result (StopsSaved input.old.limit (R.state reader.old)
+        (R.state reader.new)
         input.old.came input.new.came) }
 {
     match take_line(alloc, input, reader)? {
@@ -98,15 +97,15 @@ fn read_lines<R: Source>(
 ) -> Result<DataSet, SavedFault>
     ensures limit { input.new.limit ≡ input.old.limit }
     ensures ok { IfOk result (λ read. IsBaseRecords read × (count ≡ Some (length read))
-        × Uses (saved read) input.old (R.left reader.old) input.new (R.left reader.new)) }
-    ensures err { IfErr result (λ e. IfInvalid e (IfSome (ahead input.old (R.left reader.old))
+        × Uses (saved read) input.old (R.state reader.old).left input.new
+        (R.state reader.new).left) }
+    ensures err { IfErr result (λ e. IfInvalid e (IfSome (ahead input.old (R.state reader.old).left)
         (λ bytes. (records : List Record) (later : List ℕ) → IsBaseRecords records
         → count ≡ Some (length records) → bytes ≡ saved records ++ later → ⊥))) }
-    ensures gives { OnOk result (Gives (R.left reader.old) (R.left reader.new)
-        (R.came reader.old) (R.came reader.new) (R.failures reader.old) (R.failures reader.new)
+    ensures gives { OnOk result (Gives (R.state reader.old) (R.state reader.new)
         input.old.came input.new.came) }
-    ensures stops { IfErr result (StopsSaved input.old.limit (R.left reader.old) (R.left reader.new)
-        (R.came reader.old) (R.came reader.new) (R.failures reader.old) (R.failures reader.new)
+    ensures stops { IfErr result (StopsSaved input.old.limit (R.state reader.old)
+        (R.state reader.new)
         input.old.came input.new.came) }
 {
     match count {
@@ -127,15 +126,15 @@ pub(crate) fn read_records<R: Source>(
 ) -> Result<DataSet, SavedFault>
     ensures limit { input.new.limit ≡ input.old.limit }
     ensures ok { IfOk result (λ read. IsBaseRecords read
-        × Uses (records_part read) input.old (R.left reader.old) input.new (R.left reader.new)) }
-    ensures err { IfErr result (λ e. IfInvalid e (IfSome (ahead input.old (R.left reader.old))
+        × Uses (records_part read) input.old (R.state reader.old).left input.new
+        (R.state reader.new).left) }
+    ensures err { IfErr result (λ e. IfInvalid e (IfSome (ahead input.old (R.state reader.old).left)
         (λ bytes. (records : List Record) (later : List ℕ) → length records < 2 ^ 64
         → IsBaseRecords records → bytes ≡ records_part records ++ later → ⊥))) }
-    ensures gives { OnOk result (Gives (R.left reader.old) (R.left reader.new)
-        (R.came reader.old) (R.came reader.new) (R.failures reader.old) (R.failures reader.new)
+    ensures gives { OnOk result (Gives (R.state reader.old) (R.state reader.new)
         input.old.came input.new.came) }
-    ensures stops { IfErr result (StopsSaved input.old.limit (R.left reader.old) (R.left reader.new)
-        (R.came reader.old) (R.came reader.new) (R.failures reader.old) (R.failures reader.new)
+    ensures stops { IfErr result (StopsSaved input.old.limit (R.state reader.old)
+        (R.state reader.new)
         input.old.came input.new.came) }
 {
     let used = input.used();

@@ -55,16 +55,15 @@ pub(crate) fn take_version<R: Source>(
 ) -> Result<Option<FileVersion>, InputFault>
     ensures limit { input.new.limit ≡ input.old.limit }
     ensures some { IfOk result (λ read. IfSome read (λ version.
-        Uses (first_line version) input.old (R.left reader.old)
-        input.new (R.left reader.new))) }
-    ensures none { IfOk result (λ read. IfNone read (IfSome (ahead input.old (R.left reader.old))
+        Uses (first_line version) input.old (R.state reader.old).left
+        input.new (R.state reader.new).left)) }
+    ensures none { IfOk result (λ read.
+        IfNone read (IfSome (ahead input.old (R.state reader.old).left)
         (λ bytes. (version : FileVersion) (rest : List ℕ) → bytes ≡ first_line version ++ rest
         → ⊥))) }
-    ensures gives { OnOk result (Gives (R.left reader.old) (R.left reader.new)
-        (R.came reader.old) (R.came reader.new) (R.failures reader.old) (R.failures reader.new)
+    ensures gives { OnOk result (Gives (R.state reader.old) (R.state reader.new)
         input.old.came input.new.came) }
-    ensures stops { IfErr result (Stops input.old.limit (R.left reader.old) (R.left reader.new)
-        (R.came reader.old) (R.came reader.new) (R.failures reader.old) (R.failures reader.new)
+    ensures stops { IfErr result (Stops input.old.limit (R.state reader.old) (R.state reader.new)
         input.old.came) }
 {
     if !input.has(reader, FIRST_LINE)? {

@@ -223,12 +223,8 @@ impl LegRecord {
     /// becomes 0.
     pub fn close(&mut self, last: Day)
         requires { self.old.first ≤ last }
-        ensures { self.new ≡ record self.old {
-          last = Some last;
-          rate = 32;
-          overflow = 32;
-          serial = 0;
-        } }
+        ensures { self.new ≡ record self.old
+            { last = Some last; rate = 32; overflow = 32; serial = 0 } }
     {
         // No effect at run time. The proof reads from this use that the day is in range.
         let _ = last.number();

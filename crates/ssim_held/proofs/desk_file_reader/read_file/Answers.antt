@@ -35,8 +35,8 @@ returns-in_err-data_set-clause-err g c =
     let k : c.from_residual-in_err-data_set.result ≡ Err c.in_err-data_set.field-0.0 = search rules in
     let uses = rw c.in-Some.is at c.in_ok-version.ensures.some in
     let v = c.in-Some.version in
-    let next = ahead c.take_version.new.input (g.R.Source.left c.take_version.new.reader) in
-    rw k (invalid_map c.in_err-data_set.field-0.0 (IfSome next HasNoRecords) (IfSome (ahead c.args.input.now (g.R.Source.left c.args.reader.now)) NoDesk)
+    let next = ahead c.take_version.new.input (g.R.Source.state c.take_version.new.reader).left in
+    rw k (invalid_map c.in_err-data_set.field-0.0 (IfSome next HasNoRecords) (IfSome (ahead c.args.input.now (g.R.Source.state c.args.reader.now).left) NoDesk)
     (λ none. of_known NoDesk (first_line v) _ next uses.next
     (λ rest at short base es file.
     let b = before_base c.saved_records_are_read.ensures.one c.equal_where_written_equal.ensures (first_line v ++ rest) rest v short refl base es file in

@@ -10,9 +10,9 @@ loop-more-init g c = record {
   came_fits = omega (arith, c.requires.came);
   not_less = omega arith;
   counted = omega (arith, c.requires.counted);
-  skipped = none_skipped c.args.limit c.args.number.now c.args.came.now c.args.window.now (g.R.Source.left c.args.reader.now);
-  fetched = fetches_first _ c.args.number.now c.args.window.now (g.R.Source.left c.args.reader.now);
-  counts = counts_none (g.R.Source.left c.args.reader.now) (g.R.Source.came c.args.reader.now) c.args.came.now;
+  skipped = none_skipped c.args.limit c.args.number.now c.args.came.now c.args.window.now (g.R.Source.state c.args.reader.now).left;
+  fetched = fetches_first _ c.args.number.now c.args.window.now (g.R.Source.state c.args.reader.now).left;
+  counts = counts_none (g.R.Source.state c.args.reader.now).left (g.R.Source.state c.args.reader.now).came c.args.came.now;
   no_failure = refl;
 }
 

@@ -1,7 +1,7 @@
 -- From record to record, by the lemmas on what was read so far; each result that ends the reading
 -- is the outcome of the bytes.
 use Rattle.std.proofs.Common.{rules, ◌≡◌, ℕ, ◌+◌, Some, None, Ok, Err, false, [], ◌∷◌, ◌++◌, refl, sym, ap, subst, ◌∙◌, arith}
-use Rattle.ssim_records.specs.Blocks.{CountsOn, Fetches}
+use Rattle.ssim_records.specs.Blocks.{CountGoesOn, Fetches}
 use Rattle.ssim_records.specs.Reading.{Answer, Counts, FailsAs, GivesNext, HasNumber, HoldsFew, NeverEnds, Reading, ending_of, given}
 use Rattle.ssim_records.proofs.Framing.{counts_none, counts_twice, fetches_first, fetches_on}
 use Rattle.ssim_records.specs.declared.record.Record.{Record}
@@ -15,7 +15,7 @@ pub loop-number-init : goal.loop-number-init
 loop-number-init g c =
     let fresh = c.requires.unread in
     let limit = c.args.blocks.now.limit in
-    let left = g.R.Source.left c.args.reader.now in
+    let left = (g.R.Source.state c.args.reader.now).left in
     let number : c.args.blocks.now.number ≡ 0 = ap (λ (r : Reading). r.number) fresh in
     record {
       limit_is = refl;
@@ -27,8 +27,8 @@ loop-number-init g c =
       so_far = nothing c.new-records_read.result c.new-records_read.ensures.kept c.new-records_read.ensures.notes c.new-records_read.ensures.previous;
       told = subst (λ (r : Reading). Told limit left left r []) (sym fresh) (told-first limit left c.frames_are_one.ensures.exist);
       fetched = subst (λ (r : Reading). Fetches false 0 [] left r.number r.held left) (sym fresh) (fetches_first false 0 [] left);
-      counts = subst (λ (r : Reading). CountsOn left left (g.R.Source.came c.args.reader.now) (g.R.Source.came c.args.reader.now) 0 r.came) (sym fresh)
-          (counts_none left (g.R.Source.came c.args.reader.now) 0);
+      counts = subst (λ (r : Reading). CountGoesOn left left (g.R.Source.state c.args.reader.now).came (g.R.Source.state c.args.reader.now).came 0 r.came) (sym fresh)
+          (counts_none left (g.R.Source.state c.args.reader.now).came 0);
       no_failure = refl;
     }
 
@@ -39,9 +39,9 @@ loop-number-preserved g c =
     let new = c.next_into.new.self in
     let x : Numbered = (c.in-Ok.number, c.in-Some.record) in
     let answer : given c.next_into.new.into c.next_into.result ≡ Ok (Some x) = rw (c.in-Ok.is, c.in-Some.is) refl in
-    let gives = subst (λ (a : Answer). GivesNext old (g.R.Source.left c.loop-number.reader) new (g.R.Source.left c.next_into.new.reader) a) answer (while-open old.ended i.open' c.next_into.ensures.record) in
+    let gives = subst (λ (a : Answer). GivesNext old (g.R.Source.state c.loop-number.reader).left new (g.R.Source.state c.next_into.new.reader).left a) answer (while-open old.ended i.open' c.next_into.ensures.record) in
     let counts = subst (λ (a : Answer). Counts old new a) answer (while-open old.ended i.open' c.next_into.ensures.counts) in
-    let fault = subst (λ (a : Answer). FailsAs (g.R.Source.failures c.loop-number.reader) (g.R.Source.failures c.next_into.new.reader) a) answer (while-open old.ended i.open' c.next_into.ensures.fault) in
+    let fault = subst (λ (a : Answer). FailsAs (g.R.Source.state c.loop-number.reader).failures (g.R.Source.state c.next_into.new.reader).failures a) answer (while-open old.ended i.open' c.next_into.ensures.fault) in
     let more = counts.1 in
     let same = c.next_into.ensures.limit in
     let limit = i.limit_is in
@@ -57,7 +57,7 @@ loop-number-preserved g c =
           accepted.closed_is (c.in_ok-push_record-in-Some.ensures i.earlier i.has);
       so_far = one-more c.loop-number.records_read c.take.new.self i.earlier i.done x c.take.new.one
           i.so_far accepted taken.noted taken.previous taken.is_record;
-      told = told-step c.args.blocks.now.limit (g.R.Source.left c.args.reader.now) (g.R.Source.left c.loop-number.reader) (g.R.Source.left c.next_into.new.reader) old new i.done x i.told gives;
+      told = told-step c.args.blocks.now.limit (g.R.Source.state c.args.reader.now).left (g.R.Source.state c.loop-number.reader).left (g.R.Source.state c.next_into.new.reader).left old new i.done x i.told gives;
       fetched = fetches_on 0 old.number new.number old.number new.number [] old.held new.held _ _ _ i.fetched (while-open old.ended i.open' c.next_into.ensures.fetched) (omega arith);
       counts = counts_twice _ _ _ _ _ _ _ _ _ i.counts (while-open old.ended i.open' c.next_into.ensures.count);
       no_failure = fault ∙ i.no_failure;
@@ -70,9 +70,9 @@ returns-in_err-take-in-Some-clause-err g c =
     let new = c.next_into.new.self in
     let x : Numbered = (c.in-Ok.number, c.in-Some.record) in
     let answer : given c.next_into.new.into c.next_into.result ≡ Ok (Some x) = rw (c.in-Ok.is, c.in-Some.is) refl in
-    let gives = subst (λ (a : Answer). GivesNext old (g.R.Source.left c.loop-number.reader) new (g.R.Source.left c.next_into.new.reader) a) answer (while-open old.ended i.open' c.next_into.ensures.record) in
+    let gives = subst (λ (a : Answer). GivesNext old (g.R.Source.state c.loop-number.reader).left new (g.R.Source.state c.next_into.new.reader).left a) answer (while-open old.ended i.open' c.next_into.ensures.record) in
     let refusal : c.from_residual.result ≡ Err c.in_err-take-in-Some.field-0.0 = search rules in
-    rw refusal (step-refused c.args.blocks.now.limit (g.R.Source.left c.args.reader.now) (g.R.Source.left c.loop-number.reader) (g.R.Source.left c.next_into.new.reader) old new c.loop-number.records_read i.earlier i.done x
+    rw refusal (step-refused c.args.blocks.now.limit (g.R.Source.state c.args.reader.now).left (g.R.Source.state c.loop-number.reader).left (g.R.Source.state c.next_into.new.reader).left old new c.loop-number.records_read i.earlier i.done x
     c.in_err-take-in-Some.field-0.0 i.so_far i.told gives (c.in_err-take-in-Some.ensures.err i.earlier i.so_far.is_kept) c.in_err-take-in-Some.ensures.is_record)
 
 pub returns-in-None-clause-ok : goal.returns-in-None-clause-ok
@@ -81,14 +81,14 @@ returns-in-None-clause-ok g c =
     let old = c.loop-number.blocks in
     let new = c.next_into.new.self in
     let answer : given c.next_into.new.into c.next_into.result ≡ Ok None = rw (c.in-Ok.is, c.in-None.is) refl in
-    let gives = subst (λ (a : Answer). GivesNext old (g.R.Source.left c.loop-number.reader) new (g.R.Source.left c.next_into.new.reader) a) answer (while-open old.ended i.open' c.next_into.ensures.record) in
+    let gives = subst (λ (a : Answer). GivesNext old (g.R.Source.state c.loop-number.reader).left new (g.R.Source.state c.next_into.new.reader).left a) answer (while-open old.ended i.open' c.next_into.ensures.record) in
     record {
       earlier = i.earlier;
       done = i.done;
       has = i.has;
       so_far = i.so_far;
-      given = subst (λ (n : ℕ). AreGivenOf c.args.blocks.now.limit (g.R.Source.left c.args.reader.now) i.done (Done (n + 1))) (sym c.number.ensures.value)
-          (told-end c.args.blocks.now.limit (g.R.Source.left c.args.reader.now) (g.R.Source.left c.loop-number.reader) (g.R.Source.left c.next_into.new.reader) old new i.done i.limit_is i.told gives);
+      given = subst (λ (n : ℕ). AreGivenOf c.args.blocks.now.limit (g.R.Source.state c.args.reader.now).left i.done (Done (n + 1))) (sym c.number.ensures.value)
+          (told-end c.args.blocks.now.limit (g.R.Source.state c.args.reader.now).left (g.R.Source.state c.loop-number.reader).left (g.R.Source.state c.next_into.new.reader).left old new i.done i.limit_is i.told gives);
     }
 
 pub returns-in-Err-clause-err : goal.returns-in-Err-clause-err
@@ -97,9 +97,9 @@ returns-in-Err-clause-err g c =
     let old = c.loop-number.blocks in
     let new = c.next_into.new.self in
     let answer : given c.next_into.new.into c.next_into.result ≡ Err c.in-Err.fault = rw c.in-Err.is refl in
-    let gives = subst (λ (a : Answer). GivesNext old (g.R.Source.left c.loop-number.reader) new (g.R.Source.left c.next_into.new.reader) a) answer (while-open old.ended i.open' c.next_into.ensures.record) in
+    let gives = subst (λ (a : Answer). GivesNext old (g.R.Source.state c.loop-number.reader).left new (g.R.Source.state c.next_into.new.reader).left a) answer (while-open old.ended i.open' c.next_into.ensures.record) in
     let number = subst (λ (a : Answer). HasNumber new.number a) answer (while-open old.ended i.open' c.next_into.ensures.number) in
-    told-fault c.args.blocks.now.limit (g.R.Source.left c.args.reader.now) (g.R.Source.left c.loop-number.reader) (g.R.Source.left c.next_into.new.reader) old new c.loop-number.records_read i.earlier i.done
+    told-fault c.args.blocks.now.limit (g.R.Source.state c.args.reader.now).left (g.R.Source.state c.loop-number.reader).left (g.R.Source.state c.next_into.new.reader).left old new c.loop-number.records_read i.earlier i.done
     c.in-Err.fault i.limit_is i.so_far i.told gives number
 
 pub returns-in_err-take-in-Some-clause-never_ends : goal.returns-in_err-take-in-Some-clause-never_ends
@@ -108,7 +108,7 @@ returns-in_err-take-in-Some-clause-never_ends g c =
     let x : Numbered = (c.in-Ok.number, c.in-Some.record) in
     let refusal : c.from_residual.result ≡ Err c.in_err-take-in-Some.field-0.0 = search rules in
     rw refusal (never-refused c.args.blocks.now.limit
-    (Came (g.R.Source.left c.args.reader.now) (g.R.Source.left c.next_into.new.reader) (g.R.Source.came c.args.reader.now) (g.R.Source.came c.next_into.new.reader))
+    (Came (g.R.Source.state c.args.reader.now) (g.R.Source.state c.next_into.new.reader))
     x.0 i.earlier x.1 c.in_err-take-in-Some.field-0.0 (c.in_err-take-in-Some.ensures.err i.earlier i.so_far.is_kept))
 
 pub returns-in_err-take-in-Some-clause-fails_after : goal.returns-in_err-take-in-Some-clause-fails_after
@@ -127,7 +127,7 @@ returns-in-Err-clause-fails_after g c =
     let fetched = fetches_on 0 old.number new.number old.number new.number [] old.held new.held _ _ _ i.fetched (while-open old.ended i.open' c.next_into.ensures.fetched) (omega arith) in
     let number = subst (λ (a : Answer). HasNumber new.number a) answer (while-open old.ended i.open' c.next_into.ensures.number) in
     let few = subst (λ (a : Answer). HoldsFew new.held a) answer (while-open old.ended i.open' c.next_into.ensures.few_left) in
-    fails-after (g.R.Source.left c.args.reader.now) (g.R.Source.left c.next_into.new.reader) new.number new.held c.in-Err.fault fetched number few
+    fails-after (g.R.Source.state c.args.reader.now).left (g.R.Source.state c.next_into.new.reader).left new.number new.held c.in-Err.fault fetched number few
 
 pub returns-in-Err-clause-never_ends : goal.returns-in-Err-clause-never_ends
 returns-in-Err-clause-never_ends g c =
@@ -135,10 +135,10 @@ returns-in-Err-clause-never_ends g c =
     let old = c.loop-number.blocks in
     let new = c.next_into.new.self in
     let answer : given c.next_into.new.into c.next_into.result ≡ Err c.in-Err.fault = rw c.in-Err.is refl in
-    let gives = subst (λ (a : Answer). GivesNext old (g.R.Source.left c.loop-number.reader) new (g.R.Source.left c.next_into.new.reader) a) answer (while-open old.ended i.open' c.next_into.ensures.record) in
+    let gives = subst (λ (a : Answer). GivesNext old (g.R.Source.state c.loop-number.reader).left new (g.R.Source.state c.next_into.new.reader).left a) answer (while-open old.ended i.open' c.next_into.ensures.record) in
     let over = subst (λ (a : Answer). NeverEnds new a) answer (while-open old.ended i.open' c.next_into.ensures.never_ends) in
     let counts = counts_twice _ _ _ _ _ _ _ _ _ i.counts (while-open old.ended i.open' c.next_into.ensures.count) in
-    ended-beyond c.args.blocks.now.limit (g.R.Source.left c.args.reader.now) (g.R.Source.left c.loop-number.reader) (g.R.Source.left c.next_into.new.reader) (g.R.Source.came c.args.reader.now) (g.R.Source.came c.next_into.new.reader)
+    ended-beyond c.args.blocks.now.limit (g.R.Source.state c.args.reader.now).left (g.R.Source.state c.loop-number.reader).left (g.R.Source.state c.next_into.new.reader).left (g.R.Source.state c.args.reader.now).came (g.R.Source.state c.next_into.new.reader).came
     old new i.done c.in-Err.fault (c.next_into.ensures.limit ∙ i.limit_is) i.told gives counts over
 
 pub returns-in_err-take-in-Some-clause-came : goal.returns-in_err-take-in-Some-clause-came
@@ -148,7 +148,7 @@ returns-in_err-take-in-Some-clause-came g c =
     let new = c.next_into.new.self in
     let refusal : c.from_residual.result ≡ Err c.in_err-take-in-Some.field-0.0 = search rules in
     let counts = counts_twice _ _ _ _ _ _ _ _ _ i.counts (while-open old.ended i.open' c.next_into.ensures.count) in
-    rw refusal (came-in c.args.blocks.now.limit (g.R.Source.left c.args.reader.now) (g.R.Source.left c.loop-number.reader) (g.R.Source.left c.next_into.new.reader) (g.R.Source.came c.args.reader.now) (g.R.Source.came c.next_into.new.reader)
+    rw refusal (came-in c.args.blocks.now.limit (g.R.Source.state c.args.reader.now).left (g.R.Source.state c.loop-number.reader).left (g.R.Source.state c.next_into.new.reader).left (g.R.Source.state c.args.reader.now).came (g.R.Source.state c.next_into.new.reader).came
     new.came old new i.done _ refl i.told (while-open old.ended i.open' c.next_into.ensures.record) counts)
 
 pub returns-in-Err-clause-came : goal.returns-in-Err-clause-came
@@ -157,7 +157,7 @@ returns-in-Err-clause-came g c =
     let old = c.loop-number.blocks in
     let new = c.next_into.new.self in
     let counts = counts_twice _ _ _ _ _ _ _ _ _ i.counts (while-open old.ended i.open' c.next_into.ensures.count) in
-    came-in c.args.blocks.now.limit (g.R.Source.left c.args.reader.now) (g.R.Source.left c.loop-number.reader) (g.R.Source.left c.next_into.new.reader) (g.R.Source.came c.args.reader.now) (g.R.Source.came c.next_into.new.reader)
+    came-in c.args.blocks.now.limit (g.R.Source.state c.args.reader.now).left (g.R.Source.state c.loop-number.reader).left (g.R.Source.state c.next_into.new.reader).left (g.R.Source.state c.args.reader.now).came (g.R.Source.state c.next_into.new.reader).came
     new.came old new i.done _ refl i.told (while-open old.ended i.open' c.next_into.ensures.record) counts
 
 pub overflow_add-result : goal.overflow_add-result

@@ -1,7 +1,8 @@
 -- The records so far were read, and the bytes that are left have the others.
 use Rattle.std.proofs.Common.{◌≡◌, ℕ, ◌+◌, ◌-◌, ◌*◌, ◌≤◌, false, List, []}
-use Rattle.std.specs.Prelude.{Option, None}
+use Rattle.std.specs.Prelude.{None}
 use Rattle.ssim_records.specs.Blocks.{CountsOn, Fetches}
+use Rattle.ssim_records.specs.Device.{Reader}
 use Rattle.ssim_records.specs.Reading.{Reading}
 use Rattle.ssim_records.specs.declared.record.Record.{Record}
 use Rattle.ssim_base.specs.internal.DataSetReader.{IsSoFar}
@@ -9,7 +10,7 @@ use Rattle.ssim_base.specs.declared.data_set.reader.DataSetReader.{DataSetReader
 use Rattle.ssim_base.proofs.ReadingLemmas.{Numbered, Told}
 use Rattle.ssim_base.proofs.data_set.reader.read_records.Given as goal
 
-pub record Goes {R : Type 0} (left : R → Option (List ℕ)) (came_of failures : R → ℕ) (limit : ℕ)
+pub record Goes {R : Type 0} (state : R → Reader) (limit : ℕ)
     (Has : List Record → Type 0) (before reader : R) (r : Reading) (g : DataSetReader) : Type 0 where
   pub limit_is : r.limit ≡ limit
   pub open' : r.ended ≡ None
@@ -18,13 +19,13 @@ pub record Goes {R : Type 0} (left : R → Option (List ℕ)) (came_of failures 
   pub done : List Numbered
   pub has : Has earlier
   pub so_far : IsSoFar g earlier done
-  pub told : Told limit (left before) (left reader) r done
-  pub fetched : Fetches false 0 [] (left before) r.number r.held (left reader)
-  pub counts : CountsOn (left before) (left reader) (came_of before) (came_of reader) 0 r.came
-  pub no_failure : failures reader ≡ failures before
+  pub told : Told limit (state before).left (state reader).left r done
+  pub fetched : Fetches false 0 [] (state before).left r.number r.held (state reader).left
+  pub counts : CountsOn (state before) (state reader) 0 r.came
+  pub no_failure : (state reader).failures ≡ (state before).failures
 
 abbrev pub invariant-loop-number : goal.invariant-loop-number
-invariant-loop-number g l = Goes g.R.Source.left g.R.Source.came g.R.Source.failures
+invariant-loop-number g l = Goes g.R.Source.state
     l.initial.blocks.limit (g.L.RecordSink.has l.records) l.initial.reader l.reader
     l.blocks l.records_read
 

@@ -8,7 +8,7 @@ pub returns-then-not-branch-clause-none : goal.returns-then-not-branch-clause-no
 returns-then-not-branch-clause-none g c = λ e.
     let short : c.has.result ≡ Ok false = search rules in
     let end = c.has.ensures.end short in
-    too_few c.has.new.self (g.R.Source.left c.has.new.reader) end.0 end.1
+    too_few c.has.new.self (g.R.Source.state c.has.new.reader).left end.0 end.1
 
 pub returns-in-Some-clause-some : goal.returns-in-Some-clause-some
 returns-in-Some-clause-some g c = λ e.
@@ -20,5 +20,5 @@ returns-in-Some-clause-some g c = λ e.
 pub returns-in-None-clause-none : goal.returns-in-None-clause-none
 returns-in-None-clause-none g c = λ e.
     let enough : c.has.result ≡ Ok true = search rules in
-    no_line c.has.new.self (g.R.Source.left c.has.new.reader) (c.has.ensures.held enough)
+    no_line c.has.new.self (g.R.Source.state c.has.new.reader).left (c.has.ensures.held enough)
     (λ r rest line. c.in-None.ensures.none r rest (subst (λ (bs : List ℕ). IsLine r bs rest) (sym c.first.ensures) line))

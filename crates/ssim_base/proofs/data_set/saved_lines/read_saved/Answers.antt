@@ -34,7 +34,7 @@ loop-done-preserved g c =
       few = omega (arith, c.loop-done-test.true);
       limit = rw c.skip.ensures (c.next_line.ensures.limit ∙ i.limit);
       uses = rw c.skip.ensures (uses_line i.earlier r c.args.input.now c.loop-done.input c.next_line.new.input _ _ _ i.uses c.in_ok-next_line.ensures.uses line);
-      gives = rw c.skip.ensures (gives_then _ _ _ _ _ _ _ _ _ _ _ _ i.gives c.in_ok-next_line.ensures.gives);
+      gives = rw c.skip.ensures (gives_then _ _ _ _ _ _ i.gives c.in_ok-next_line.ensures.gives);
     }
 
 pub returns-then-not-branch-clause-err : goal.returns-then-not-branch-clause-err
@@ -86,5 +86,5 @@ returns-clause-ok g c =
     let are = c.of_base.ensures ∙ i.has in (
       subst (λ (rs : List Record). IsBaseRecords rs) (sym are) (base-records (reverse i.earlier) whole.1),
       ap (λ (rs : List Record). length rs) are ∙ length-reverse i.earlier ∙ omega (arith, i.number, i.few, c.loop-done-test.false),
-      subst (λ (rs : List Record). Uses (saved rs) c.args.input.now (g.R.Source.left c.args.reader.now) c.loop-done.input (g.R.Source.left c.loop-done.reader)) (sym are) i.uses,
+      subst (λ (rs : List Record). Uses (saved rs) c.args.input.now (g.R.Source.state c.args.reader.now).left c.loop-done.input (g.R.Source.state c.loop-done.reader).left) (sym are) i.uses,
     )

@@ -1,7 +1,7 @@
 -- The records so far are kept, their lines were used, and what is left can only begin with the lines
 -- of records that complete a base.
 use Rattle.std.proofs.Common.{◌≡◌, ◌≤◌, ◌-◌, ◌++◌, ℕ, List, length, reverse}
-use Rattle.std.specs.Prelude.{Option}
+use Rattle.ssim_records.specs.Device.{Reader}
 use Rattle.ssim_records.specs.InputBuffer.{Gives, Input, Uses}
 use Rattle.ssim_records.specs.declared.record.Record.{Record}
 use Rattle.ssim_base.specs.SavedBase.{saved}
@@ -10,7 +10,7 @@ use Rattle.ssim_base.specs.declared.data_set.acceptance.Acceptance.{Acceptance}
 use Rattle.ssim_base.proofs.SavedLines.{IsLeft}
 use Rattle.ssim_base.proofs.data_set.saved_lines.read_saved.Given as goal
 
-pub record Goes {R : Type 0} (left : R → Option (List ℕ)) (came_of failures : R → ℕ)
+pub record Goes {R : Type 0} (state : R → Reader)
     (count done : ℕ) (kept : Acceptance) (records : List Record)
     (old new : Input) (before reader : R) : Type 0 where
   pub earlier : List Record
@@ -20,11 +20,11 @@ pub record Goes {R : Type 0} (left : R → Option (List ℕ)) (came_of failures 
   pub number : length earlier ≡ done
   pub few : done ≤ count
   pub limit : new.limit ≡ old.limit
-  pub uses : Uses (saved (reverse earlier)) old (left before) new (left reader)
-  pub gives : Gives (left before) (left reader) (came_of before) (came_of reader) (failures before) (failures reader) old.came new.came
+  pub uses : Uses (saved (reverse earlier)) old (state before).left new (state reader).left
+  pub gives : Gives (state before) (state reader) old.came new.came
 
 abbrev pub invariant-loop-done : goal.invariant-loop-done
-invariant-loop-done g l = Goes g.R.Source.left g.R.Source.came g.R.Source.failures
+invariant-loop-done g l = Goes g.R.Source.state
     l.count l.done l.kept l.records.items l.initial.input l.input l.initial.reader l.reader
 
 abbrev pub decreases-loop-done : goal.decreases-loop-done

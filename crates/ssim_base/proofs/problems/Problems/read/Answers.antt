@@ -1,6 +1,6 @@
 -- From block to block, by the lemmas on what was read so far.
 use Rattle.std.proofs.Common.{rules, ◌≡◌, ◌∙◌, ℕ, ◌+◌, Some, None, Ok, Err, [], ◌∷◌, ◌++◌, refl, sym, ap, subst, arith}
-use Rattle.ssim_records.specs.Blocks.{CountsOn}
+use Rattle.ssim_records.specs.Blocks.{CountGoesOn}
 use Rattle.ssim_records.specs.Reading.{BlockAnswer, CountsBlock, FailsAs, GivesNextBlock, HasNumber, Reading, block_ending, without_block}
 use Rattle.ssim_records.specs.declared.fault.RecordFault.TheVariants.{Short}
 use Rattle.ssim_records.proofs.Framing.{counts_none, counts_twice}
@@ -14,7 +14,7 @@ pub loop-next-init : goal.loop-next-init
 loop-next-init g c =
     let fresh = c.new-blocks.ensures in
     let limit = c.args.limit in
-    let left = g.R.Source.left c.args.reader.now in
+    let left = (g.R.Source.state c.args.reader.now).left in
     let number : c.new-blocks.result.number ≡ 0 = ap (λ (r : Reading). r.number) fresh in
     let few = c.new-found.ensures.records_are in
     record {
@@ -25,8 +25,8 @@ loop-next-init g c =
       blocks = [];
       so_far = none-so-far c.new-found.result c.new-found.ensures;
       told = subst (λ (r : Reading). ToldBlocks limit left left r []) (sym fresh) (told-none limit left c.frames_are_one.ensures.exist);
-      counts = subst (λ (r : Reading). CountsOn left left (g.R.Source.came c.args.reader.now) (g.R.Source.came c.args.reader.now) 0 r.came) (sym fresh)
-          (counts_none left (g.R.Source.came c.args.reader.now) 0);
+      counts = subst (λ (r : Reading). CountGoesOn left left (g.R.Source.state c.args.reader.now).came (g.R.Source.state c.args.reader.now).came 0 r.came) (sym fresh)
+          (counts_none left (g.R.Source.state c.args.reader.now).came 0);
       no_failure = refl;
     }
 
@@ -38,9 +38,9 @@ loop-next-preserved g c =
     let number = c.in-Ok-Some.next.0 in
     let block = c.in-Ok-Some.next.1 in
     let answer : c.next_block.result ≡ Ok (Some (number, block)) = search rules in
-    let gives = subst (λ (a : BlockAnswer). GivesNextBlock old (g.R.Source.left c.loop-next.reader) new (g.R.Source.left c.next_block.new.reader) a) answer (while-open old.ended i.open' c.next_block.ensures.record) in
+    let gives = subst (λ (a : BlockAnswer). GivesNextBlock old (g.R.Source.state c.loop-next.reader).left new (g.R.Source.state c.next_block.new.reader).left a) answer (while-open old.ended i.open' c.next_block.ensures.record) in
     let counts = subst (λ (a : BlockAnswer). CountsBlock old new a) answer (while-open old.ended i.open' c.next_block.ensures.counts) in
-    let fault = subst (λ (a : BlockAnswer). FailsAs (g.R.Source.failures c.loop-next.reader) (g.R.Source.failures c.next_block.new.reader) (without_block a)) answer (while-open old.ended i.open' c.next_block.ensures.fault) in
+    let fault = subst (λ (a : BlockAnswer). FailsAs (g.R.Source.state c.loop-next.reader).failures (g.R.Source.state c.next_block.new.reader).failures (without_block a)) answer (while-open old.ended i.open' c.next_block.ensures.fault) in
     let more = counts.0 in
     let within = counts.1 in
     let same = c.next_block.ensures.limit in
@@ -54,7 +54,7 @@ loop-next-preserved g c =
       few = omega (arith, records, few, more);
       blocks = i.blocks ++ (number, block) ∷ [];
       so_far = one-so-far c.loop-next.found c.take.new.self i.blocks number block i.so_far c.in_ok-take-in-Ok-Some.ensures.takes records c.take.ensures.trailer;
-      told = told-block c.args.limit (g.R.Source.left c.args.reader.now) (g.R.Source.left c.loop-next.reader) (g.R.Source.left c.next_block.new.reader) old new i.blocks number block i.told gives;
+      told = told-block c.args.limit (g.R.Source.state c.args.reader.now).left (g.R.Source.state c.loop-next.reader).left (g.R.Source.state c.next_block.new.reader).left old new i.blocks number block i.told gives;
       counts = counts_twice _ _ _ _ _ _ _ _ _ i.counts (while-open old.ended i.open' c.next_block.ensures.count);
       no_failure = fault ∙ i.no_failure;
     }
@@ -68,9 +68,9 @@ returns-in-Ok-None-clause-ok g c =
     let p = c.in_ok-problems-in-Ok-None.problems in
     let so = i.so_far in
     let answer : c.next_block.result ≡ Ok None = search rules in
-    let gives = subst (λ (a : BlockAnswer). GivesNextBlock old (g.R.Source.left c.loop-next.reader) new (g.R.Source.left c.next_block.new.reader) a) answer (while-open old.ended i.open' c.next_block.ensures.record) in
+    let gives = subst (λ (a : BlockAnswer). GivesNextBlock old (g.R.Source.state c.loop-next.reader).left new (g.R.Source.state c.next_block.new.reader).left a) answer (while-open old.ended i.open' c.next_block.ensures.record) in
     let faults = c.in_ok-problems-in-Ok-None.ensures.faults so.standing so.stands in
-    problems-end c.args.limit (g.R.Source.left c.args.reader.now) (g.R.Source.left c.loop-next.reader) (g.R.Source.left c.next_block.new.reader) old new i.blocks found p i.limit_is so i.told gives
+    problems-end c.args.limit (g.R.Source.state c.args.reader.now).left (g.R.Source.state c.loop-next.reader).left (g.R.Source.state c.next_block.new.reader).left old new i.blocks found p i.limit_is so i.told gives
     c.in_ok-problems-in-Ok-None.ensures.records
     (subst (λ (n : ℕ). p.faults.items ≡ found.faults.items ++ numbered (n + 1) (missing_in so.standing found.trailer)) c.number.ensures.value faults)
 
@@ -84,7 +84,7 @@ returns-in-Err-Short-clause-ok g c =
     let done = c.in_ok-problems-in-Err-Short in
     let faults : done.problems.faults.items ≡ found.faults.items ++ Read (Short n) ∷ [] = rw c.in-Err-Short.field-0-is at done.ensures.faults in
     let answer : c.next_block.result ≡ Err (Short n) = search rules in
-    let gives = subst (λ (a : BlockAnswer). GivesNextBlock old (g.R.Source.left c.loop-next.reader) new (g.R.Source.left c.next_block.new.reader) a) answer (while-open old.ended i.open' c.next_block.ensures.record) in
+    let gives = subst (λ (a : BlockAnswer). GivesNextBlock old (g.R.Source.state c.loop-next.reader).left new (g.R.Source.state c.next_block.new.reader).left a) answer (while-open old.ended i.open' c.next_block.ensures.record) in
     let number = subst (λ (a : BlockAnswer). HasNumber new.number (without_block a)) answer (while-open old.ended i.open' c.next_block.ensures.number) in
-    problems-cut c.args.limit (g.R.Source.left c.args.reader.now) (g.R.Source.left c.loop-next.reader) (g.R.Source.left c.next_block.new.reader) old new i.blocks found done.problems n i.limit_is i.so_far i.told gives number
+    problems-cut c.args.limit (g.R.Source.state c.args.reader.now).left (g.R.Source.state c.loop-next.reader).left (g.R.Source.state c.next_block.new.reader).left old new i.blocks found done.problems n i.limit_is i.so_far i.told gives number
     done.ensures.records faults

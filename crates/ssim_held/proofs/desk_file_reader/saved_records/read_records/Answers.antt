@@ -13,9 +13,9 @@ use Rattle.ssim_held.proofs.desk_file_reader.saved_records.read_records.Goals as
 pub returns-in-Some-clause-ok : goal.returns-in-Some-clause-ok
 returns-in-Some-clause-ok g c =
     let some = rw c.in-Some.is at c.in_ok-count.ensures.some in
-    let l0 = g.R.Source.left c.args.reader.now in
-    let l1 = g.R.Source.left c.take_count.new.reader in
-    let l2 = g.R.Source.left c.read_lines.new.reader in
+    let l0 = (g.R.Source.state c.args.reader.now).left in
+    let l1 = (g.R.Source.state c.take_count.new.reader).left in
+    let l2 = (g.R.Source.state c.read_lines.new.reader).left in
     ok_map c.read_lines.result
     (λ (read : List Record). IsBaseRecords read × (c.in-Some.count ≡ Some (length read)) × Uses (saved read) c.take_count.new.input l1 c.read_lines.new.input l2)
     (λ (read : List Record). IsBaseRecords read × Uses (records_part read) c.args.input.now l0 c.read_lines.new.input l2)
@@ -26,8 +26,8 @@ pub returns-in-Some-clause-err : goal.returns-in-Some-clause-err
 returns-in-Some-clause-err g c =
     let some = rw c.in-Some.is at c.in_ok-count.ensures.some in
     let only = rw c.in-Some.is at c.in_ok-count.ensures.only in
-    let l0 = g.R.Source.left c.args.reader.now in
-    let l1 = g.R.Source.left c.take_count.new.reader in
+    let l0 = (g.R.Source.state c.args.reader.now).left in
+    let l1 = (g.R.Source.state c.take_count.new.reader).left in
     let P = IfSome (ahead c.take_count.new.input l1) (HasNoLines c.in-Some.count) in
     let Q = IfSome (ahead c.args.input.now l0) HasNoRecords in
     err_map c.read_lines.result (λ (e : SavedFault). IfInvalid e P) (λ (e : SavedFault). IfInvalid e Q)

@@ -21,5 +21,5 @@ loop-line-preserved g c =
       no_end = rw items (no_end_more line byte i.no_end c.if-byte-eq10.false);
       limit = rw c.skip.ensures (c.has.ensures.limit ∙ i.limit);
       uses = rw (c.skip.ensures, items) (uses_more line (byte ∷ []) 1 c.args.input.now c.loop-line.input c.has.new.self _ _ _ i.uses c.in_ok-has.ensures.uses next);
-      gives = rw c.skip.ensures (gives_then _ _ _ _ _ _ _ _ _ _ _ _ i.gives c.in_ok-has.ensures.gives);
+      gives = rw c.skip.ensures (gives_then _ _ _ _ _ _ i.gives c.in_ok-has.ensures.gives);
     }

@@ -46,7 +46,7 @@ returns-then-not-branch-clause-none g c =
     let short : c.has.result ≡ Ok false = search rules in
     let end = c.has.ensures.end short in
     of_next HasNone _ _ c.in_ok-has.ensures.uses.next
-    (some_map (λ (bytes : List ℕ). length bytes < 11) HasNone _ too_few (few_ahead 11 c.has.new.self (g.R.Source.left c.has.new.reader) end.0 end.1))
+    (some_map (λ (bytes : List ℕ). length bytes < 11) HasNone _ too_few (few_ahead 11 c.has.new.self (g.R.Source.state c.has.new.reader).left end.0 end.1))
 
 pub returns-in-Some-clause-some : goal.returns-in-Some-clause-some
 returns-in-Some-clause-some g c =
@@ -63,4 +63,4 @@ returns-in-None-clause-none g c =
     of_next HasNone _ _ c.in_ok-has.ensures.uses.next
     (some_map (λ (bytes : List ℕ). (later : List ℕ) × (bytes ≡ take 11 c.has.new.self.held ++ later)) HasNone _
     (λ bytes cut version rest e. c.in-None.ensures.none version [] (c.first.ensures ∙ first_is version (take 11 c.has.new.self.held) rest bytes cut.0 long cut.1 e))
-    (held_ahead 11 c.has.new.self (g.R.Source.left c.has.new.reader)))
+    (held_ahead 11 c.has.new.self (g.R.Source.state c.has.new.reader).left))

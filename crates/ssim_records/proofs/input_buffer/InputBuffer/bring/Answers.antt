@@ -7,6 +7,6 @@ pub loop-self-init : goal.loop-self-init
 loop-self-init g c = record {
   within = c.requires.within;
   limit = refl;
-  uses = uses_none c.args.self.now (g.R.Source.left c.args.reader.now);
-  gives = gives_none (g.R.Source.left c.args.reader.now) (g.R.Source.came c.args.reader.now) (g.R.Source.failures c.args.reader.now) c.args.self.now.came;
+  uses = uses_none c.args.self.now (g.R.Source.state c.args.reader.now).left;
+  gives = gives_none (g.R.Source.state c.args.reader.now) c.args.self.now.came;
 }

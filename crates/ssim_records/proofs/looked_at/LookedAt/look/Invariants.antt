@@ -5,10 +5,10 @@ use Rattle.ssim_records.proofs.looked_at.LookedAt.look.Given as goal
 
 abbrev pub invariant-loop-self : goal.invariant-loop-self
 invariant-loop-self g l =
-    (prepend_known l.self.first (g.R.Source.left l.self.reader)
-    ≡ prepend_known l.initial.self.first (g.R.Source.left l.initial.self.reader))
+    (prepend_known l.self.first (g.R.Source.state l.self.reader).left
+    ≡ prepend_known l.initial.self.first (g.R.Source.state l.initial.self.reader).left)
     × (l.self.came ≡ l.initial.self.came)
-    × (g.R.Source.failures l.self.reader ≡ g.R.Source.failures l.initial.self.reader)
+    × ((g.R.Source.state l.self.reader).failures ≡ (g.R.Source.state l.initial.self.reader).failures)
 
 abbrev pub decreases-loop-self : goal.decreases-loop-self
 decreases-loop-self g l = 9 - length l.self.first
