@@ -10,8 +10,8 @@ use Rattle.ssim_records.specs.Reading as reading
 use Rattle.ssim_records.specs.Reading.{BlockAnswer, GivesNextBlock, HasNumber, IsAhead, Reading, without_block}
 use Rattle.ssim_records.specs.declared.fault.RecordFault.{RecordFault}
 use Rattle.ssim_records.specs.declared.fault.RecordFault.TheVariants.{Short, BadType, BadColumn, ReadFault, ReaderNeverEnds}
-use Rattle.ssim_base.specs.Problems.{AreItems, AreProblems, After, HasProblems, Item, Standing, after_item, begins_as_trailer, end_problem, missing_in, numbered, problem_in, problems_in, standing_after}
-use Rattle.ssim_base.specs.Reading.{AreBlocks, HaveCome, NeverEnds}
+use Rattle.ssim_base.specs.Problems.{AreItems, AreProblems, After, HasProblems, Item, NamesLast, Standing, after_item, begins_as_trailer, end_problem, missing_in, numbered, problem_in, problems_in, standing_after}
+use Rattle.ssim_base.specs.Reading.{AreBlocks, FailsAfter, HaveCome, NeverEnds}
 use Rattle.ssim_base.specs.internal.Problems.{IsNew, Stands, Takes}
 use Rattle.ssim_base.specs.declared.fault.BaseFault.TheVariants.{Read}
 use Rattle.ssim_base.specs.declared.problems.ProblemReader.{ProblemReader}
@@ -203,6 +203,27 @@ problems-cut limit (Some all) (Some left) (Some left') r new before found p n sa
         → p.faults.items ≡ found.faults.items ++ end_problem so.standing found.trailer (length t.blocks + 1) rest
     cut-off [] some is = absurd (omega (arith, some))
     cut-off (b ∷ rest) some is = is
+
+-- ---- which record a reading of blocks fails at
+
+-- a reading that failed, or that more bytes came for than the limit
+pub names-last : (limit : ℕ) (told left left' : Option (List ℕ)) (r new : Reading)
+    (before : List (ℕ × List ℕ)) (f : RecordFault) → FailsAfter told left' (Read f)
+    → ToldBlocks limit told left r before → GivesNextBlock r left new left' (Err f)
+    → HasNumber new.number (Err f) → NamesLast limit told left' (Read f)
+names-last limit told left left' r new before (Short n) after t given is = tt
+names-last limit told left left' r new before (BadType n) after t given is = tt
+names-last limit told left left' r new before (BadColumn n column) after t given is = tt
+names-last limit told left left' r new before (ReadFault n) after t given is = after
+names-last limit None left left' r new before (ReaderNeverEnds n) after t given is = tt
+names-last limit (Some all) None left' r new before (ReaderNeverEnds n) after t given is = absurd t
+names-last limit (Some all) (Some left) None r new before (ReaderNeverEnds n) after t given is =
+    absurd given
+names-last limit (Some all) (Some left) (Some left') r new before (ReaderNeverEnds n) after t given
+    is =
+    let a = given.1 t.later t.rest t.ahead in
+    let count = count-blocks limit all left r new before t a.0 in
+    (t.blocks, t.rest, t.framed, is ∙ ap (λ k. k + 1) count)
 
 -- ---- how many bytes came
 

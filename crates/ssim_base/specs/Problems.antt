@@ -4,12 +4,14 @@ use Rattle.std.specs.List.{list_any}
 use Rattle.ssim_records.specs.Frames.{Frames, others}
 use Rattle.ssim_records.specs.Record.{Spells, fault_of}
 use Rattle.ssim_records.specs.declared.fault.RecordFault.{RecordFault}
-use Rattle.ssim_records.specs.declared.fault.RecordFault.TheVariants.{Short}
+use Rattle.ssim_records.specs.declared.fault.RecordFault.TheVariants.{Short, BadType, BadColumn, ReadFault, ReaderNeverEnds}
 use Rattle.ssim_records.specs.declared.record.Record.{Record}
 use Rattle.ssim_records.specs.declared.record.Record.TheVariants.{Header, Carrier, Leg, Segment, Trailer}
 use Rattle.ssim_base.specs.Base.{first_of, is_continued, is_overflow, is_rate, kept, missing, refusal_at, refuse_if}
 use Rattle.ssim_base.specs.declared.fault.BaseFault.{BaseFault}
+use Rattle.ssim_base.specs.Reading.{AreBlocks, IsAfterComplete}
 use Rattle.ssim_base.specs.declared.fault.BaseFault.TheVariants.{Read, Refused}
+use Rattle.ssim_base.specs.declared.fault.BaseFault.TheVariants as fault
 use Rattle.ssim_base.specs.declared.fault.BaseRefusal.{BaseRefusal}
 use Rattle.ssim_base.specs.declared.fault.BaseRefusal.TheVariants as refused
 use Rattle.ssim_base.specs.declared.problems.Problems.{Problems}
@@ -137,6 +139,24 @@ pub record AreProblems (bytes : List ℕ) (problems : Problems) : Type 0 where
 abbrev pub HasProblems : ℕ → Option (List ℕ) → Problems → Type 0
 HasProblems limit None problems = Unit {0}
 HasProblems limit (Some bytes) problems = (length bytes ≤ limit) × AreProblems bytes problems
+
+-- The record after the complete ones within the limit has this number, if the bytes are known.
+abbrev pub IsAfterLimit : ℕ → Option (List ℕ) → ℕ → Type 0
+IsAfterLimit limit None number = Unit {0}
+IsAfterLimit limit (Some bytes) number =
+    (blocks : List (List ℕ)) × (rest : List ℕ) × AreBlocks limit bytes blocks rest
+    × (number ≡ length blocks + 1)
+
+-- Which record a 13 or a 14 names if invalid records are read, too: at 13 the record after the
+-- complete ones that came, at 14 the one after the complete ones within the limit.
+abbrev pub NamesLast : ℕ → Option (List ℕ) → Option (List ℕ) → BaseFault → Type 0
+NamesLast limit all left fault.Memory = Unit {0}
+NamesLast limit all left (fault.Read (Short n)) = Unit {0}
+NamesLast limit all left (fault.Read (BadType n)) = Unit {0}
+NamesLast limit all left (fault.Read (BadColumn n column)) = Unit {0}
+NamesLast limit all left (fault.Read (ReadFault n)) = IsAfterComplete all left n
+NamesLast limit all left (fault.Read (ReaderNeverEnds n)) = IsAfterLimit limit all n
+NamesLast limit all left (fault.Refused n refusal) = Unit {0}
 
 -- Bytes have one list of problems.
 abbrev pub SameBytesSameProblems : Type 0

@@ -2,7 +2,7 @@
 
 ghost use Rattle.std.specs.Prelude.{◌≡◌, ◌<◌, ◌+◌, ◌-◌, ◌^◌, ◌∷◌, ◌++◌, ◌||◌, [], false, IfErr, IfOk, OnOk};
 ghost use Rattle.ssim_records.specs.declared.fault.RecordFault.{RecordFault};
-ghost use Rattle.ssim_base.specs.Problems.{HasProblems, Standing, begins_as_trailer, missing_in, numbered};
+ghost use Rattle.ssim_base.specs.Problems.{HasProblems, NamesLast, Standing, begins_as_trailer, missing_in, numbered};
 ghost use Rattle.ssim_base.specs.Reading.{Came, FailsAs, NeverEnds};
 ghost use Rattle.ssim_base.specs.internal.Problems.{Finds, IsNew, Passes, Stands, Takes};
 ghost use Rattle.ssim_base.specs.internal.Reading.{is_of_bytes};
@@ -35,6 +35,8 @@ impl Problems {
             ≡ (R.state reader.old).failures) }
         ensures failure { IfErr result
             (λ e. FailsAs (R.state reader.old).failures (R.state reader.new).failures e) }
+        ensures names { IfErr result
+            (NamesLast limit (R.state reader.old).left (R.state reader.new).left) }
         ensures never_ends { IfErr result
             (λ e. NeverEnds limit (Came (R.state reader.old) (R.state reader.new)) e) }
     {

@@ -246,6 +246,9 @@ impl Records {
             (R.state reader.new).left result }
         ensures counts { CountsBlock self.old self.new result }
         ensures number { HasNumber self.new.number (without_block result) }
+        ensures fetched { FetchesNext self.old (R.state reader.old).left self.new
+            (R.state reader.new).left }
+        ensures few_left { HoldsFew self.new.held (without_block result) }
         ensures never_ends { NeverEnds self.new (without_block result) }
         ensures fault { FailsAs (R.state reader.old).failures (R.state reader.new).failures
             (without_block result) }
@@ -301,6 +304,12 @@ impl Records {
             result) }
         ensures counts { IfNone self.old.ended (CountsBlock self.old self.new result) }
         ensures number { IfNone self.old.ended (HasNumber self.new.number (without_block result)) }
+
+        // The counted blocks, and then the held bytes, are the bytes that came. At 13 the held
+        // bytes are too few for a block.
+        ensures fetched { IfNone self.old.ended
+            (FetchesNext self.old (R.state reader.old).left self.new (R.state reader.new).left) }
+        ensures few_left { IfNone self.old.ended (HoldsFew self.new.held (without_block result)) }
 
         // 13 is returned if the reader failed, 14 after the limit, and no fault of a block. The
         // bytes that came are those of the reader.

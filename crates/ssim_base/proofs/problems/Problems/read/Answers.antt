@@ -1,13 +1,13 @@
 -- From block to block, by the lemmas on what was read so far.
-use Rattle.std.proofs.Common.{rules, ◌≡◌, ◌∙◌, ℕ, ◌+◌, Some, None, Ok, Err, [], ◌∷◌, ◌++◌, refl, sym, ap, subst, arith}
-use Rattle.ssim_records.specs.Blocks.{CountGoesOn}
-use Rattle.ssim_records.specs.Reading.{BlockAnswer, CountsBlock, FailsAs, GivesNextBlock, HasNumber, Reading, block_ending, without_block}
+use Rattle.std.proofs.Common.{rules, ◌≡◌, ◌∙◌, ℕ, ◌+◌, Some, None, Ok, Err, false, [], ◌∷◌, ◌++◌, refl, sym, ap, subst, arith}
+use Rattle.ssim_records.specs.Blocks.{CountGoesOn, Fetches}
+use Rattle.ssim_records.specs.Reading.{BlockAnswer, CountsBlock, FailsAs, GivesNextBlock, HasNumber, HoldsFew, Reading, block_ending, without_block}
 use Rattle.ssim_records.specs.declared.fault.RecordFault.TheVariants.{Short}
-use Rattle.ssim_records.proofs.Framing.{counts_none, counts_twice}
+use Rattle.ssim_records.proofs.Framing.{counts_none, counts_twice, fetches_first, fetches_on}
 use Rattle.ssim_base.specs.Problems.{missing_in, numbered}
 use Rattle.ssim_base.specs.declared.fault.BaseFault.TheVariants.{Read}
-use Rattle.ssim_base.proofs.ProblemLemmas.{ToldBlocks, none-so-far, one-so-far, problems-cut, problems-end, told-block, told-none}
-use Rattle.ssim_base.proofs.ReadingLemmas.{while-open}
+use Rattle.ssim_base.proofs.ProblemLemmas.{ToldBlocks, none-so-far, one-so-far, names-last, problems-cut, problems-end, told-block, told-none}
+use Rattle.ssim_base.proofs.ReadingLemmas.{fails-after, while-open}
 use Rattle.ssim_base.proofs.problems.Problems.read.Goals as goal
 
 pub loop-next-init : goal.loop-next-init
@@ -25,6 +25,9 @@ loop-next-init g c =
       blocks = [];
       so_far = none-so-far c.new-found.result c.new-found.ensures;
       told = subst (λ (r : Reading). ToldBlocks limit left left r []) (sym fresh) (told-none limit left c.frames_are_one.ensures.exist);
+      fetched =
+          subst (λ (r : Reading). Fetches false 0 [] left r.number r.held left) (sym fresh)
+          (fetches_first false 0 [] left);
       counts = subst (λ (r : Reading). CountGoesOn left left (g.R.Source.state c.args.reader.now).came (g.R.Source.state c.args.reader.now).came 0 r.came) (sym fresh)
           (counts_none left (g.R.Source.state c.args.reader.now).came 0);
       no_failure = refl;
@@ -55,6 +58,9 @@ loop-next-preserved g c =
       blocks = i.blocks ++ (number, block) ∷ [];
       so_far = one-so-far c.loop-next.found c.take.new.self i.blocks number block i.so_far c.in_ok-take-in-Ok-Some.ensures.takes records c.take.ensures.trailer;
       told = told-block c.args.limit (g.R.Source.state c.args.reader.now).left (g.R.Source.state c.loop-next.reader).left (g.R.Source.state c.next_block.new.reader).left old new i.blocks number block i.told gives;
+      fetched =
+          fetches_on 0 old.number new.number old.number new.number [] old.held new.held _ _ _ i.fetched
+          (while-open old.ended i.open' c.next_block.ensures.fetched) (omega arith);
       counts = counts_twice _ _ _ _ _ _ _ _ _ i.counts (while-open old.ended i.open' c.next_block.ensures.count);
       no_failure = fault ∙ i.no_failure;
     }
@@ -88,3 +94,27 @@ returns-in-Err-Short-clause-ok g c =
     let number = subst (λ (a : BlockAnswer). HasNumber new.number (without_block a)) answer (while-open old.ended i.open' c.next_block.ensures.number) in
     problems-cut c.args.limit (g.R.Source.state c.args.reader.now).left (g.R.Source.state c.loop-next.reader).left (g.R.Source.state c.next_block.new.reader).left old new i.blocks found done.problems n i.limit_is i.so_far i.told gives number
     done.ensures.records faults
+
+pub returns-in-Err-clause-names : goal.returns-in-Err-clause-names
+returns-in-Err-clause-names g c =
+    let i = c.loop-next.invariant in
+    let old = c.loop-next.blocks in
+    let new = c.next_block.new.self in
+    let before = (g.R.Source.state c.args.reader.now).left in
+    let left = (g.R.Source.state c.loop-next.reader).left in
+    let after = (g.R.Source.state c.next_block.new.reader).left in
+    let answer : c.next_block.result ≡ Err c.in-Err.fault = search rules in
+    let gives =
+    subst (λ (a : BlockAnswer). GivesNextBlock old left new after a) answer
+    (while-open old.ended i.open' c.next_block.ensures.record) in
+    let fetched =
+    fetches_on 0 old.number new.number old.number new.number [] old.held new.held _ _ _ i.fetched
+    (while-open old.ended i.open' c.next_block.ensures.fetched) (omega arith) in
+    let number =
+    subst (λ (a : BlockAnswer). HasNumber new.number (without_block a)) answer
+    (while-open old.ended i.open' c.next_block.ensures.number) in
+    let few =
+    subst (λ (a : BlockAnswer). HoldsFew new.held (without_block a)) answer
+    (while-open old.ended i.open' c.next_block.ensures.few_left) in
+    names-last c.args.limit before left after old new i.blocks c.in-Err.fault
+    (fails-after before after new.number new.held c.in-Err.fault fetched number few) i.told gives number

@@ -12,3 +12,9 @@ returns-in-Ok-true-clause-record g c =
     let e : c.next_other.result ≡ Ok true = search rules in
     let b = rw e at c.next_other.ensures.block in
     rw (c.front-block.ensures, c.skip.ensures, ← c.self.view_is) (block_found old after _ _ (take 200 c.next_other.new.window) refl b)
+
+pub returns-in-Ok-true-clause-fetched : goal.returns-in-Ok-true-clause-fetched
+returns-in-Ok-true-clause-fetched g c =
+    let e : c.next_other.result ≡ Ok true = search rules in
+    let fetched = rw e at c.next_other.ensures.fetched in
+    rw (c.skip.ensures, ← c.self.view_is) fetched
