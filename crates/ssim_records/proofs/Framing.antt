@@ -11,7 +11,7 @@ use Rattle.ssim_records.specs.declared.blocks.Stop.TheVariants.{Short, ReadFault
 use Rattle.ssim_records.specs.declared.device.DeviceFault.{DeviceFault}
 use Rattle.ssim_records.specs.Device.{CountChanges}
 use Rattle.ssim_records.specs.Frames.{trim, Frames, others, is_fill}
-use Rattle.ssim_records.specs.Blocks.{CameOn, SameAhead, CountGoesOn, Fetches, Takes}
+use Rattle.ssim_records.specs.Blocks.{CameOn, SameAhead, CountGoesOn, Fetches, StaysLeft, Takes}
 use Rattle.ssim_records.specs.internal.Blocks.{NextBlock, GivesBlock, GivesOther, Ahead}
 use Rattle.ssim_records.proofs.LineEnds.{trim_front, trim_pass, trim_twice, trim_less}
 use Rattle.ssim_columns.proofs.lemmas.Slices.{same_front, same_back}
@@ -140,6 +140,18 @@ came_more (Some x) (Some y) (Some z) held came0 came n h same is = omega (arith,
 pub came_none : (l : Option (List ℕ)) (came : ℕ) → CameOn l l came came
 came_none None came = tt
 came_none (Some x) came = refl
+
+-- the bytes that are left, before and after some of them are fetched
+pub left_none : (l : Option (List ℕ)) → StaysLeft l l
+left_none None = tt
+left_none (Some x) = ([], refl)
+
+pub left_less : (l0 l1 l2 : Option (List ℕ)) (held : List ℕ) → StaysLeft l0 l1 → SameAhead [] l1 held l2 → StaysLeft l0 l2
+left_less None l1 l2 held h same = tt
+left_less (Some x) None l2 held h same = absurd h
+left_less (Some x) (Some y) None held h same = same
+left_less (Some x) (Some y) (Some z) held h same =
+    (h.0 ++ held, h.1 ∙ ap (λ (t : List ℕ). h.0 ++ t) (sym same) ∙ sym (append_assoc h.0 held z))
 
 -- no byte came
 pub came_same : (l0 l1 l2 : Option (List ℕ)) (held : List ℕ) (came0 came : ℕ) → CameOn l0 l1 came0 came → SameAhead [] l1 held l2 → length held ≡ 0 → CameOn l0 l2 came0 came

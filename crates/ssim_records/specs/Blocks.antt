@@ -31,6 +31,13 @@ Fetches after_block number held (Some left) number' held' (Some left') =
     (fetched : List ℕ) × (blocks : List (List ℕ)) × (left ≡ fetched ++ left')
     × (number' ≡ number + length blocks) × Takes after_block (held ++ fetched) blocks held'
 
+-- The bytes that are left are the last of those that were left before. Nothing is said if the
+-- reader does not report its bytes.
+abbrev pub StaysLeft : Option (List ℕ) → Option (List ℕ) → Type 0
+StaysLeft None left' = Unit {0}
+StaysLeft (Some left) None = ⊥
+StaysLeft (Some left) (Some left') = (fetched : List ℕ) × (left ≡ fetched ++ left')
+
 -- The bytes that came are those that the reader no longer has left. Nothing is said if the reader
 -- does not report its bytes.
 abbrev pub CameOn : Option (List ℕ) → Option (List ℕ) → ℕ → ℕ → Type 0

@@ -4,7 +4,7 @@ ghost use Rattle.std.specs.Prelude.{◌≡◌, ◌<◌, ◌≤◌, ◌+◌, ◌*
 ghost use Rattle.std.specs.Io.KnownBytes.{IsAtEnd};
 ghost use Rattle.ssim_records.specs.declared.blocks.Stop.TheVariants.{ReaderNeverEnds};
 ghost use Rattle.ssim_records.specs.Frames.{is_fill};
-ghost use Rattle.ssim_records.specs.Blocks.{CameOn, CountsOn, Fetches};
+ghost use Rattle.ssim_records.specs.Blocks.{CameOn, CountsOn, Fetches, StaysLeft};
 ghost use Rattle.ssim_records.specs.internal.Blocks.{behind_front, with_front, FailsAtRest, GivesBlock, GivesOther, FailsOnce, HoldsFew, block_count};
 
 use crate::device::Source;
@@ -145,6 +145,7 @@ pub fn skip_rest<R: Source>(
     ensures end { OnOk result (IsAtEnd (R.state reader.new).left × (came.new ≤ limit)) }
     ensures fault { FailsAtRest limit came.new (R.state reader.old).failures
         (R.state reader.new).failures result }
+    ensures left { StaysLeft (R.state reader.old).left (R.state reader.new).left }
     ensures total { CameOn (R.state reader.old).left (R.state reader.new).left came.old came.new }
     ensures count { CountsOn (R.state reader.old) (R.state reader.new) came.old came.new }
 {

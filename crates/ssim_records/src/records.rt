@@ -2,7 +2,7 @@
 
 ghost use Rattle.std.specs.Prelude.{◌≡◌, ◌≤◌, ◌<◌, ◌+◌, ◌*◌, [], IfNone, IfSome, IfErr, IfOk, OnOk};
 ghost use Rattle.std.specs.Io.KnownBytes.{IsAtEnd};
-ghost use Rattle.ssim_records.specs.Blocks.{CameOn, CountsOn};
+ghost use Rattle.ssim_records.specs.Blocks.{CameOn, CountsOn, StaysLeft};
 ghost use Rattle.ssim_records.specs.Reading.{Counts, FailsAs, FetchesNext, GivesNext, HasNumber, HoldsFew, NeverEnds, RestFails, given, last_answer, ending_of};
 ghost use Rattle.ssim_records.specs.Reading.{CountsBlock, GivesNextBlock, IsNoBlockFault, block_ending, last_block, without_block};
 
@@ -346,6 +346,7 @@ impl Records {
         ensures fault { RestFails self.new (R.state reader.old) (R.state reader.new) result }
 
         // The bytes that came are those of the reader.
+        ensures left { StaysLeft (R.state reader.old).left (R.state reader.new).left }
         ensures total { CameOn (R.state reader.old).left (R.state reader.new).left self.old.came
             self.new.came }
         ensures count { CountsOn (R.state reader.old) (R.state reader.new) self.old.came
