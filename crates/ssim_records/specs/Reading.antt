@@ -96,18 +96,13 @@ FetchesNext old left new left' =
 
 -- after a failure of the reader too few bytes are held for a record
 abbrev pub HoldsFew : List ℕ → Answer → Type 0
-HoldsFew held (Ok found) = Unit {0}
-HoldsFew held (Err (Short n)) = Unit {0}
-HoldsFew held (Err (BadType n)) = Unit {0}
-HoldsFew held (Err (BadColumn n column)) = Unit {0}
 HoldsFew held (Err (ReadFault n)) = length held < 200
-HoldsFew held (Err (ReaderNeverEnds n)) = Unit {0}
+HoldsFew held _ = Unit {0}
 
 -- a returned record is counted, and its 200 bytes are within the limit
 abbrev pub Counts : Reading → Reading → Answer → Type 0
-Counts old new (Ok None) = Unit {0}
 Counts old new (Ok (Some found)) = (old.number < new.number) × (200 * new.number ≤ new.limit + 1)
-Counts old new (Err fault) = Unit {0}
+Counts old new _ = Unit {0}
 
 -- An invalid record has the number of the records counted. Any other fault has the number after it.
 abbrev pub HasNumber : ℕ → Answer → Type 0
@@ -121,31 +116,24 @@ HasNumber number (Err (ReaderNeverEnds n)) = n ≡ number + 1
 
 -- the reader's failures are counted: one more if the result is a read fault, else none
 abbrev pub FailsAs : ℕ → ℕ → Answer → Type 0
-FailsAs old new (Ok found) = new ≡ old
-FailsAs old new (Err (Short n)) = new ≡ old
-FailsAs old new (Err (BadType n)) = new ≡ old
-FailsAs old new (Err (BadColumn n column)) = new ≡ old
 FailsAs old new (Err (ReadFault n)) = new ≡ (old + 1) % 2 ^ 64
-FailsAs old new (Err (ReaderNeverEnds n)) = new ≡ old
+FailsAs old new _ = new ≡ old
 
 -- If the fault is 14, one byte more came than the limit, and no record within the limit is held.
 abbrev pub NeverEnds : Reading → Answer → Type 0
-NeverEnds new (Ok found) = Unit {0}
 NeverEnds new (Err (ReaderNeverEnds n)) = (new.came ≡ new.limit + 1) × (length new.held < 201)
-NeverEnds new (Err fault) = Unit {0}
+NeverEnds new _ = Unit {0}
 
 -- The reader's failures are counted while the rest is skipped: one more if the fault is 13, else
 -- none. If the fault is 14, one byte more came than the limit. There is no other fault, and it
 -- names the record after those that were counted.
 abbrev pub RestFails : Reading → Reader → Reader → Result ⊤ RecordFault → Type 0
 RestFails r old new (Ok x) = new.failures ≡ old.failures
-RestFails r old new (Err (Short n)) = ⊥
-RestFails r old new (Err (BadType n)) = ⊥
-RestFails r old new (Err (BadColumn n column)) = ⊥
 RestFails r old new (Err (ReadFault n)) =
     (n ≡ r.number + 1) × (new.failures ≡ (old.failures + 1) % 2 ^ 64)
 RestFails r old new (Err (ReaderNeverEnds n)) =
     (n ≡ r.number + 1) × (new.failures ≡ old.failures) × (r.came ≡ r.limit + 1)
+RestFails r old new _ = ⊥
 
 -- what each call returns after the end
 abbrev pub last_answer : Ending → Answer
@@ -174,14 +162,10 @@ ReturnsBlock old left blocks rest new After (Ok None) =
 ReturnsBlock old left blocks rest new After (Ok (Some found)) =
     (later : List (List ℕ)) × IsNext old blocks new found.1 later × (found.0 ≡ new.number)
     × After later
-ReturnsBlock old left blocks rest new After (Err (Short n)) =
-    Returns old left blocks rest new After (Err (Short n))
 ReturnsBlock old left blocks rest new After (Err (BadType n)) = ⊥
 ReturnsBlock old left blocks rest new After (Err (BadColumn n column)) = ⊥
-ReturnsBlock old left blocks rest new After (Err (ReadFault n)) =
-    Returns old left blocks rest new After (Err (ReadFault n))
-ReturnsBlock old left blocks rest new After (Err (ReaderNeverEnds n)) =
-    Returns old left blocks rest new After (Err (ReaderNeverEnds n))
+ReturnsBlock old left blocks rest new After (Err fault) =
+    Returns old left blocks rest new After (Err fault)
 
 -- The result is right for whatever blocks and rest are ahead. Nothing is said if the reader does
 -- not report its bytes.
@@ -201,18 +185,15 @@ without_block (Err fault) = Err fault
 
 -- a returned block is counted, and its 200 bytes are within the limit
 abbrev pub CountsBlock : Reading → Reading → BlockAnswer → Type 0
-CountsBlock old new (Ok None) = Unit {0}
 CountsBlock old new (Ok (Some found)) =
     (old.number < new.number) × (200 * new.number ≤ new.limit + 1) × (found.0 ≡ new.number)
-CountsBlock old new (Err fault) = Unit {0}
+CountsBlock old new _ = Unit {0}
 
 -- the faults are 10, 13 and 14
 abbrev pub IsNoBlockFault : RecordFault → Type 0
-IsNoBlockFault (Short n) = Unit {0}
 IsNoBlockFault (BadType n) = ⊥
 IsNoBlockFault (BadColumn n column) = ⊥
-IsNoBlockFault (ReadFault n) = Unit {0}
-IsNoBlockFault (ReaderNeverEnds n) = Unit {0}
+IsNoBlockFault _ = Unit {0}
 
 -- what each call for a block returns after the end
 abbrev pub last_block : Ending → BlockAnswer

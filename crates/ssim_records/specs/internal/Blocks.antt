@@ -38,22 +38,18 @@ with_front held (Err stop) = Err stop
 
 -- the bytes held after the block is taken; all of them if there is none
 abbrev pub behind_front : Result Bool Stop → List ℕ → List ℕ
-behind_front (Ok false) held = held
 behind_front (Ok true) held = drop 200 held
-behind_front (Err stop) held = held
+behind_front _ held = held
 
 -- the number of blocks in a result
 abbrev pub block_count : Result (Option (List ℕ)) Stop → ℕ
-block_count (Ok None) = 0
 block_count (Ok (Some block)) = 1
-block_count (Err stop) = 0
+block_count _ = 0
 
 -- a reader that failed left too few bytes for a block
 abbrev pub HoldsFew : List ℕ → Result (Option (List ℕ)) Stop → Type 0
-HoldsFew held (Ok o) = Unit {0}
-HoldsFew held (Err Short) = Unit {0}
 HoldsFew held (Err ReadFault) = length held < 200
-HoldsFew held (Err ReaderNeverEnds) = Unit {0}
+HoldsFew held _ = Unit {0}
 
 -- The result for the blocks and the rest ahead: the next block that is not fill, with its number;
 -- or the end; or the fault at the end. A failure of the reader leaves only fill counted.
@@ -87,10 +83,8 @@ GivesOther limit number came held (Some left) number' came' held' (Some left') r
 
 -- the reader's failures are counted: one more if the result is a read fault, else none
 abbrev pub FailsOnce : ℕ → ℕ → Result (Option (List ℕ)) Stop → Type 0
-FailsOnce old new (Ok o) = new ≡ old
-FailsOnce old new (Err Short) = new ≡ old
 FailsOnce old new (Err ReadFault) = new ≡ (old + 1) % 2 ^ 64
-FailsOnce old new (Err ReaderNeverEnds) = new ≡ old
+FailsOnce old new _ = new ≡ old
 
 -- The reader's failures are counted while the rest is skipped: one more if the result is a read
 -- fault, else none. After any other fault more bytes came than the limit.
