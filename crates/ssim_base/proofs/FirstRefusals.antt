@@ -1,10 +1,12 @@
 -- The fault of a data set names its first invalid record: an induction over the records, of which
 -- those that were accepted are passed on, the latest first.
-use Rattle.std.proofs.Common.{◌≡◌, ℕ, zero, suc, ◌<◌, List, [], ◌∷◌, ◌++◌, map, reverse, take, Some, None, IfSome, slice_get, refl, sym, ap, subst, ◌∙◌, append_assoc, arith}
+use Rattle.std.proofs.Common.{◌≡◌, ℕ, zero, suc, ◌<◌, List, [], ◌∷◌, ◌++◌, map, reverse, take, Option, Some, None, IfSome, slice_get, refl, sym, ap, subst, ◌∙◌, append_assoc, arith}
 use Rattle.std.proofs.lemmas.List.{append-nil, reverse-append}
 use Rattle.ssim_records.specs.declared.record.Record.{Record}
-use Rattle.ssim_base.specs.Base.{Ending, NamesTheEnd, NamesTheFirst, at_end, at_record, before_record, first_refusal, kept, kept_all, missing, notes_of, refusal_at, unless_refused}
-use Rattle.ssim_base.specs.declared.fault.BaseFault.TheVariants.{Refused}
+use Rattle.ssim_records.specs.declared.fault.RecordFault.{RecordFault}
+use Rattle.ssim_base.specs.Base.{Broken, Ending, IsAllowed, NamesTheEnd, NamesTheFirst, at_end, at_record, before_record, first_refusal, kept, kept_all, missing, notes_of, refusal_at, unless_refused}
+use Rattle.ssim_base.specs.declared.fault.BaseFault.{BaseFault}
+use Rattle.ssim_base.specs.declared.fault.BaseFault.TheVariants.{Read, Refused}
 use Rattle.ssim_base.specs.declared.fault.BaseRefusal.{BaseRefusal}
 
 -- the records that were accepted earlier and then these, the latest first
@@ -59,3 +61,23 @@ names_the_end ending records allowed =
     let base = kept_all [] (map (λ x. x.1) records) in
     ap (λ o. unless_refused o (base, notes_of 0 records))
     (end_at ending [] records (λ j. from_start records j (allowed j)) ∙ ap (λ es. at_end ending (missing es)) (append-nil (reverse base)))
+
+-- ---- records of which none is refused
+
+passed : (n : ℕ) (o : Option BaseRefusal) (later : Option BaseFault) (f : RecordFault) → at_record n o later ≡ Some (Read f) → (o ≡ None) × (later ≡ Some (Read f))
+passed n None later f is = (refl, is)
+passed n (Some refusal) later f is = absurd cc
+
+allowed_at : (f : RecordFault) (earlier : List Record) (records : List (ℕ × Record)) → first_refusal (Broken f) earlier records ≡ Some (Read f) → (j : ℕ) → AllowedAfter earlier records j
+allowed_at f earlier [] is zero = tt
+allowed_at f earlier [] is (suc j) = tt
+allowed_at f earlier (x ∷ rs) is zero = (passed x.0 (refusal_at earlier x.1) (first_refusal (Broken f) (kept earlier x.1 ∷ earlier) rs) f is).0
+allowed_at f earlier (x ∷ rs) is (suc j) =
+    let later = passed x.0 (refusal_at earlier x.1) (first_refusal (Broken f) (kept earlier x.1 ∷ earlier) rs) f is in
+    subst (λ (es : List Record). IfSome (slice_get rs j) (λ r. refusal_at es r.1 ≡ None)) (sym (accepted_more earlier x (take j rs)))
+    (allowed_at f (kept earlier x.1 ∷ earlier) rs later.1 j)
+
+-- records that end with a fault of the reader are all allowed
+pub all_allowed : (f : RecordFault) (records : List (ℕ × Record)) → first_refusal (Broken f) [] records ≡ Some (Read f) → (k : ℕ) → IsAllowed records k
+all_allowed f records is k =
+    subst (λ (es : List Record). IfSome (slice_get records k) (λ r. refusal_at es r.1 ≡ None)) (append-nil (before_record records k)) (allowed_at f [] records is k)

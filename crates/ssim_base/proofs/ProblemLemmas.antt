@@ -4,18 +4,19 @@ use Rattle.std.proofs.lemmas.List.{append-nil, length-append}
 use Rattle.std.proofs.lemmas.List.Folds.{list_any-append}
 use Rattle.std.proofs.Math.Bool.{or-false}
 use Rattle.std.specs.List.{list_any}
-use Rattle.ssim_records.specs.Blocks.{CountGoesOn, beyond}
+use Rattle.ssim_records.specs.Blocks.{CountGoesOn, Fetches, beyond}
 use Rattle.ssim_records.specs.Frames.{Frames, FramesExist, others}
 use Rattle.ssim_records.specs.Reading as reading
-use Rattle.ssim_records.specs.Reading.{BlockAnswer, GivesNextBlock, HasNumber, IsAhead, Reading, without_block}
+use Rattle.ssim_records.specs.Reading.{GivesNextBlock, HasNumber, IsAhead, Reading, without_block}
 use Rattle.ssim_records.specs.declared.fault.RecordFault.{RecordFault}
 use Rattle.ssim_records.specs.declared.fault.RecordFault.TheVariants.{Short, BadType, BadColumn, ReadFault, ReaderNeverEnds}
 use Rattle.ssim_base.specs.Problems.{AreItems, AreProblems, After, HasProblems, Item, NamesLast, Standing, after_item, begins_as_trailer, end_problem, missing_in, numbered, problem_in, problems_in, standing_after}
-use Rattle.ssim_base.specs.Reading.{AreBlocks, FailsAfter, HaveCome, NeverEnds}
+use Rattle.ssim_base.specs.Reading.{AreBlocks, HaveCome, NeverEnds}
 use Rattle.ssim_base.specs.internal.Problems.{IsNew, Stands, Takes}
 use Rattle.ssim_base.specs.declared.fault.BaseFault.TheVariants.{Read}
 use Rattle.ssim_base.specs.declared.problems.ProblemReader.{ProblemReader}
 use Rattle.ssim_base.specs.declared.problems.Problems.{Problems}
+use Rattle.ssim_base.proofs.ReadingLemmas.{after-complete}
 
 -- ---- the problems so far
 
@@ -208,18 +209,20 @@ problems-cut limit (Some all) (Some left) (Some left') r new before found p n sa
 
 -- a reading that failed, or that more bytes came for than the limit
 pub names-last : (limit : ℕ) (told left left' : Option (List ℕ)) (r new : Reading)
-    (before : List (ℕ × List ℕ)) (f : RecordFault) → FailsAfter told left' (Read f)
+    (before : List (ℕ × List ℕ)) (f : RecordFault)
+    → Fetches false 0 [] told new.number new.held left' → reading.HoldsFew new.held (Err f)
     → ToldBlocks limit told left r before → GivesNextBlock r left new left' (Err f)
     → HasNumber new.number (Err f) → NamesLast limit told left' (Read f)
-names-last limit told left left' r new before (Short n) after t given is = tt
-names-last limit told left left' r new before (BadType n) after t given is = tt
-names-last limit told left left' r new before (BadColumn n column) after t given is = tt
-names-last limit told left left' r new before (ReadFault n) after t given is = after
-names-last limit None left left' r new before (ReaderNeverEnds n) after t given is = tt
-names-last limit (Some all) None left' r new before (ReaderNeverEnds n) after t given is = absurd t
-names-last limit (Some all) (Some left) None r new before (ReaderNeverEnds n) after t given is =
+names-last limit told left left' r new before (Short n) fetched few t given is = tt
+names-last limit told left left' r new before (BadType n) fetched few t given is = tt
+names-last limit told left left' r new before (BadColumn n column) fetched few t given is = tt
+names-last limit told left left' r new before (ReadFault n) fetched few t given is =
+    after-complete told left' new.number n new.held fetched is few
+names-last limit None left left' r new before (ReaderNeverEnds n) fetched few t given is = tt
+names-last limit (Some all) None left' r new before (ReaderNeverEnds n) fetched few t given is = absurd t
+names-last limit (Some all) (Some left) None r new before (ReaderNeverEnds n) fetched few t given is =
     absurd given
-names-last limit (Some all) (Some left) (Some left') r new before (ReaderNeverEnds n) after t given
+names-last limit (Some all) (Some left) (Some left') r new before (ReaderNeverEnds n) fetched few t given
     is =
     let a = given.1 t.later t.rest t.ahead in
     let count = count-blocks limit all left r new before t a.0 in

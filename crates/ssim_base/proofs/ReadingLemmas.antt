@@ -5,21 +5,22 @@ use Rattle.std.proofs.lemmas.List.Elements.{All-append}
 use Rattle.std.specs.List.{All}
 use Rattle.std.specs.Prelude.{IfNone, IfSome}
 use Rattle.std.specs.Io.KnownBytes.{IsAtEnd}
-use Rattle.ssim_records.specs.Blocks.{CameOn, CountGoesOn, CountsOn, Fetches, beyond}
+use Rattle.ssim_records.specs.Blocks.{CameOn, CountGoesOn, CountsOn, Fetches, StaysLeft, beyond}
 use Rattle.ssim_records.specs.Frames.{Frames, FramesExist, others}
 use Rattle.ssim_records.specs.Reading as reading
 use Rattle.ssim_records.specs.Device.{Reader}
-use Rattle.ssim_records.specs.Reading.{Answer, Reading, GivesNext, HasNumber, IsAhead, RestFails}
+use Rattle.ssim_records.specs.Reading.{Answer, FetchesNext, Reading, GivesNext, HasNumber, IsAhead, RestFails}
 use Rattle.ssim_records.specs.Record.{IsRecord, fault_of, serial_of}
 use Rattle.ssim_records.specs.declared.fault.RecordFault.{RecordFault}
 use Rattle.ssim_records.specs.declared.fault.RecordFault.TheVariants.{Short, BadType, BadColumn, ReadFault, ReaderNeverEnds}
 use Rattle.ssim_records.specs.declared.record.Record.{Record}
 use Rattle.ssim_records.specs.declared.records.Ending as records
+use Rattle.ssim_records.proofs.FrameLaws.{frames_exist}
 use Rattle.ssim_records.proofs.Framing.{takes_all}
 use Rattle.ssim_base.specs.Base.{Ending, Done, Broken, Outcome, at_record, check_notes, data_set, first_refusal, kept, kept_all, missing, note_if, notes_of, refusal_at, unless_refused}
 use Rattle.ssim_base.specs.internal.DataSetReader.{IsSoFar, notes_at}
 use Rattle.ssim_base.specs.internal.Acceptance.{HasAccepted, IsRefused, AcceptsNext}
-use Rattle.ssim_base.specs.Reading.{AreBlocks, AreGiven, Begins, Came, HaveCome, FailsAfter, FailsAs, Gives, IsReadOf, IsRecordAfter, NamesNext, NeverEnds, RefusesWhole, Stops}
+use Rattle.ssim_base.specs.Reading.{AreBlocks, AreComplete, AreGiven, Begins, Came, HaveCome, FailsAfter, FailsAs, Gives, IsAfterComplete, IsAfterInvalid, IsReadOf, IsRecordAfter, NamesNext, NeverEnds, RefusesWhole, Stops}
 use Rattle.ssim_base.specs.internal.Reading.{ReturnsAs, AreGivenOf, Refuses, is_of_bytes}
 use Rattle.ssim_base.specs.ReadBack.{EachSpells}
 use Rattle.ssim_base.specs.declared.fault.BaseFault.{BaseFault}
@@ -29,6 +30,8 @@ use Rattle.ssim_base.specs.declared.fault.BaseRefusal.{BaseRefusal}
 use Rattle.ssim_base.specs.declared.data_set.reader.DataSetReader.{DataSetReader}
 use Rattle.ssim_base.specs.declared.note.Note.{Note}
 use Rattle.ssim_base.specs.declared.note.Note.TheVariants.{Serial}
+use Rattle.ssim_base.proofs.CameRecords.{After, UpTo, counted-came, first-blocks, others-after, others-append, others-up-to, part-once, up-to-append, up-to-more}
+use Rattle.ssim_base.proofs.FirstRefusals.{all_allowed}
 use Rattle.ssim_base.proofs.NotedReads.{noted}
 
 abbrev pub Numbered : Type 0
@@ -109,6 +112,7 @@ pub record IsTold (limit : ℕ) (all left : List ℕ) (r : Reading) (done : List
   pub before : List (ℕ × List ℕ)
   pub split : others 0 blocks ≡ before ++ others r.number later
   pub spelled : EachSpells before done
+  pub few : UpTo r.number before
 
 -- if the reader reports its bytes
 abbrev pub Told : ℕ → Option (List ℕ) → Option (List ℕ) → Reading → List Numbered → Type 0
@@ -154,6 +158,7 @@ told-first limit (Some all) exist =
       before = [];
       split = refl;
       spelled = tt;
+      few = tt;
     }
 
 step : (limit : ℕ) (all left left' : List ℕ) (r new : Reading) (done : List Numbered) (x : Numbered) → IsTold limit all left r done → GivesNext r (Some left) new (Some left') (Ok (Some x))
@@ -163,6 +168,7 @@ step limit all left left' r new done x t given =
     let block = a.0 in
     let later = a.1 in
     let next = a.2 in
+    let after = subst (After r.number) next.0 (others-after r.number t.later) in
     record {
       blocks = t.blocks;
       later = later;
@@ -174,6 +180,9 @@ step limit all left left' r new done x t given =
       before = t.before ++ (new.number, block) ∷ [];
       split = t.split ∙ ap (λ bs. t.before ++ bs) next.0 ∙ sym (append_assoc t.before ((new.number, block) ∷ []) (others new.number later));
       spelled = each-append t.before ((new.number, block) ∷ []) done (x ∷ []) t.spelled (sym a.3, a.4, tt);
+      few =
+          up-to-append new.number t.before ((new.number, block) ∷ [])
+          (up-to-more r.number new.number t.before (omega (arith, after.0)) t.few) (omega arith, tt);
     }
 
 pub told-step : (limit : ℕ) (told left left' : Option (List ℕ)) (r new : Reading) (done : List Numbered) (x : Numbered) → Told limit told left r done → GivesNext r left new left' (Ok (Some x))
@@ -322,16 +331,80 @@ never-refused limit CameFrom n earlier r (Refused m refusal) is = tt
 -- ---- which record a reading fails at
 
 -- a reading that failed had as many complete records as were counted
-pub fails-after : (all left : Option (List ℕ)) (number : ℕ) (held : List ℕ) (f : RecordFault) → Fetches false 0 [] all number held left → HasNumber number (Err f) → reading.HoldsFew held (Err f) → FailsAfter all left (Read f)
-fails-after all left number held (Short n) fetched is few = tt
-fails-after all left number held (BadType n) fetched is few = tt
-fails-after all left number held (BadColumn n column) fetched is few = tt
-fails-after None left number held (ReadFault n) fetched is few = tt
-fails-after (Some all) None number held (ReadFault n) fetched is few = fetched
-fails-after (Some all) (Some left) number held (ReadFault n) fetched is few =
+pub after-complete : (all left : Option (List ℕ)) (number n : ℕ) (held : List ℕ)
+    → Fetches false 0 [] all number held left → n ≡ number + 1 → length held < 200
+    → IsAfterComplete all left n
+after-complete None left number n held fetched is few = tt
+after-complete (Some all) None number n held fetched is few = absurd fetched
+after-complete (Some all) (Some left) number n held fetched is few =
     let framed = takes_all false fetched.0 fetched.1 held fetched.4 few in
-    (fetched.0, fetched.1, framed.0, fetched.2, framed.1, omega (arith, is, fetched.3))
-fails-after all left number held (ReaderNeverEnds n) fetched is few = tt
+    (fetched.1, (fetched.0, framed.0, fetched.2, framed.1), omega (arith, is, fetched.3))
+
+-- these spelled the records so far, each of which is allowed
+all-came : (limit : ℕ) (all left left' : List ℕ) (r new : Reading) (g : DataSetReader)
+    (earlier : List Record) (done : List Numbered) (n : ℕ) → IsSoFar g earlier done
+    → IsTold limit all left r done → GivesNext r (Some left) new (Some left') (Err (ReadFault n))
+    → FetchesNext r (Some left) new (Some left')
+    → Fetches false 0 [] (Some all) new.number new.held (Some left') → n ≡ new.number + 1
+    → length new.held < 200 → FailsAfter (Some all) (Some left') (Read (ReadFault n))
+all-came limit all left left' r new g earlier done n so_far t given more fetched is few =
+    let a = given.1 t.later t.rest t.ahead in
+    let came = fetched.0 in
+    let blocks = fetched.1 in
+    let over = length all - limit in
+    let framed = takes_all false came blocks new.held fetched.4 few in
+    let within : length blocks ≤ length t.blocks = omega (arith, fetched.3, a.2, t.count) in
+    let rest =
+    first-blocks over false came left' blocks new.held t.blocks t.rest fetched.4
+    (subst (λ (bs : List ℕ). Frames over false bs t.blocks t.rest) fetched.2 t.framed) within in
+    let number : 0 + length blocks ≡ new.number = omega (arith, fetched.3) in
+    let split : others 0 blocks ++ others (0 + length blocks) rest.0 ≡ t.before ++ others new.number a.0 =
+    sym (others-append 0 blocks rest.0)
+    ∙ ap (others 0) (sym rest.1)
+    ∙ t.split
+    ∙ ap (λ (bs : List (ℕ × List ℕ)). t.before ++ bs) a.1 in
+    let same =
+    part-once new.number (others 0 blocks) (others (0 + length blocks) rest.0) t.before
+    (others new.number a.0)
+    (subst (λ (k : ℕ). UpTo k (others 0 blocks)) number (others-up-to 0 blocks))
+    (subst (λ (k : ℕ). After k (others (0 + length blocks) rest.0)) number (others-after (0 + length blocks) rest.0))
+    (up-to-more r.number new.number t.before (omega (arith, more.3)) t.few)
+    (others-after new.number a.0) split in
+    let ends : first_refusal (Broken (ReadFault n)) [] done ≡ Some (Read (ReadFault n)) =
+    ap (first_refusal (Broken (ReadFault n)) []) (sym (append-nil done))
+    ∙ so_far.refused (Broken (ReadFault n)) [] in (
+      blocks,
+      (came, framed.0, fetched.2, framed.1),
+      (
+        done,
+        subst (λ (bs : List (ℕ × List ℕ)). EachSpells bs done) (sym same) t.spelled,
+        all_allowed (ReadFault n) done ends,
+      ),
+      omega (arith, is, fetched.3),
+    )
+
+pub fails-after : (limit : ℕ) (told left left' : Option (List ℕ)) (r new : Reading)
+    (g : DataSetReader) (earlier : List Record) (done : List Numbered) (f : RecordFault)
+    → IsSoFar g earlier done → Told limit told left r done → GivesNext r left new left' (Err f)
+    → FetchesNext r left new left' → Fetches false 0 [] told new.number new.held left'
+    → HasNumber new.number (Err f) → reading.HoldsFew new.held (Err f)
+    → FailsAfter told left' (Read f)
+fails-after limit told left left' r new g earlier done (Short n) so t given more fetched is few = tt
+fails-after limit told left left' r new g earlier done (BadType n) so t given more fetched is few =
+    tt
+fails-after limit told left left' r new g earlier done (BadColumn n column) so t given more fetched
+    is few = tt
+fails-after limit None left left' r new g earlier done (ReadFault n) so t given more fetched is few =
+    tt
+fails-after limit (Some all) None left' r new g earlier done (ReadFault n) so t given more fetched is
+    few = absurd t
+fails-after limit (Some all) (Some left) None r new g earlier done (ReadFault n) so t given more
+    fetched is few = absurd given
+fails-after limit (Some all) (Some left) (Some left') r new g earlier done (ReadFault n) so t given
+    more fetched is few =
+    all-came limit all left left' r new g earlier done n so t given more fetched is few
+fails-after limit told left left' r new g earlier done (ReaderNeverEnds n) so t given more fetched is
+    few = tt
 
 -- a record is never refused as 13
 pub never-fails : (all left : Option (List ℕ)) (n : ℕ) (earlier : List Record) (r : Record) (e : BaseFault) → IsRefused n earlier r e → FailsAfter all left e
@@ -513,8 +586,10 @@ names-first limit all left fault.Memory h after = tt
 names-first limit all left (Read (Short n)) h after = tt
 names-first limit all left (Read (BadType n)) h after = tt
 names-first limit all left (Read (BadColumn n column)) h after = tt
-names-first limit all left (Read (ReadFault n)) h after = inl after
-names-first limit all left (Read (ReaderNeverEnds n)) h after = inl h
+names-first limit None left (Read (ReadFault n)) h after = tt
+names-first limit (Some all) left (Read (ReadFault n)) h after =
+    (after.0, after.1, inr (after.2, after.3))
+names-first limit all left (Read (ReaderNeverEnds n)) h after = (Read (ReaderNeverEnds n), h, inl refl)
 names-first limit all left (Refused n refusal) h after = tt
 
 -- a fault of the bytes names no record after the invalid one
@@ -534,18 +609,44 @@ invalid-read limit all fault.Memory is h = absurd cc
 invalid-read limit all (Read f) is h = h
 invalid-read limit all (Refused n refusal) is h = h
 
+-- the records that were counted came, and maybe more
+came-whole : (all mid left : Option (List ℕ)) (number : ℕ) (held : List ℕ)
+    → Fetches false 0 [] all number held mid → StaysLeft mid left
+    → IfSome all (λ bytes. (blocks : List (List ℕ)) × AreComplete bytes left blocks
+    × (number ≤ length blocks))
+came-whole None mid left number held fetched stays = tt
+came-whole (Some all) None left number held fetched stays = absurd fetched
+came-whole (Some all) (Some mid) None number held fetched stays = absurd stays
+came-whole (Some all) (Some mid) (Some left) number held fetched stays =
+    let came = fetched.0 ++ stays.0 in
+    let frames = frames_exist 0 false came in
+    let count =
+    counted-came false fetched.0 stays.0 fetched.1 held frames.0 frames.1.0 fetched.4 frames.1.1 in
+    let parts : all ≡ came ++ left =
+    fetched.2
+    ∙ ap (λ (t : List ℕ). fetched.0 ++ t) stays.1
+    ∙ sym (append_assoc fetched.0 stays.0 left) in
+    (frames.0, (came, frames.1.0, parts, frames.1.1), omega (arith, fetched.3, count))
+
 -- the fault came after an invalid record
-pub names-rest : (limit : ℕ) (all left : Option (List ℕ)) (e : BaseFault) (number : ℕ)
+pub names-rest : (limit : ℕ) (all : Option (List ℕ)) (e : BaseFault) (number : ℕ) (held : List ℕ)
     (old new : Reader) (r : Reading) (f : RecordFault) → is_of_bytes e ≡ true → Refuses limit all e
-    → IsRecordAfter e (number + 1) → r.number ≡ number → RestFails r old new (Err f)
-    → NamesNext limit all left (Read f)
-names-rest limit all left e number old new r (Short n) is h next same fails = absurd fails
-names-rest limit all left e number old new r (BadType n) is h next same fails = absurd fails
-names-rest limit all left e number old new r (BadColumn n column) is h next same fails =
+    → IsRecordAfter e (number + 1) → Fetches false 0 [] all number held old.left
+    → StaysLeft old.left new.left → r.number ≡ number → RestFails r old new (Err f)
+    → NamesNext limit all new.left (Read f)
+names-rest limit all e number held old new r (Short n) is h next fetched stays same fails =
     absurd fails
-names-rest limit all left e number old new r (ReadFault n) is h next same fails =
+names-rest limit all e number held old new r (BadType n) is h next fetched stays same fails =
+    absurd fails
+names-rest limit all e number held old new r (BadColumn n column) is h next fetched stays same fails =
+    absurd fails
+names-rest limit None e number held old new r (ReadFault n) is h next fetched stays same fails = tt
+names-rest limit (Some all) e number held old new r (ReadFault n) is h next fetched stays same fails =
     let named : number + 1 ≡ n = sym (fails.0 ∙ ap (λ k. k + 1) same) in
-    inr (e, invalid-read limit all e is h, subst (λ k. IsRecordAfter e k) named next)
-names-rest limit all left e number old new r (ReaderNeverEnds n) is h next same fails =
+    let whole = came-whole (Some all) old.left new.left number held fetched stays in
+    let invalid : IsAfterInvalid limit (Some all) n =
+    (e, invalid-read limit (Some all) e is h, subst (λ k. IsRecordAfter e k) named next) in
+    (whole.0, whole.1, inl (invalid, omega (arith, whole.2, named)))
+names-rest limit all e number held old new r (ReaderNeverEnds n) is h next fetched stays same fails =
     let named : number + 1 ≡ n = sym (fails.0 ∙ ap (λ k. k + 1) same) in
-    inr (e, invalid-read limit all e is h, subst (λ k. IsRecordAfter e k) named next)
+    (e, invalid-read limit all e is h, inr (subst (λ k. IsRecordAfter e k) named next))

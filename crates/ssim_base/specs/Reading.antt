@@ -7,8 +7,8 @@ use Rattle.ssim_records.specs.Record.{IsRecord, Spells, fault_of}
 use Rattle.ssim_records.specs.declared.fault.RecordFault.{RecordFault}
 use Rattle.ssim_records.specs.declared.fault.RecordFault.TheVariants.{Short, BadType, BadColumn, ReadFault, ReaderNeverEnds}
 use Rattle.ssim_records.specs.declared.record.Record.{Record}
-use Rattle.ssim_base.specs.Base.{Ending, Done, Broken, Outcome, data_set}
-use Rattle.ssim_base.specs.ReadBack.{AreRead}
+use Rattle.ssim_base.specs.Base.{Ending, Done, Broken, Outcome, IsAllowed, data_set}
+use Rattle.ssim_base.specs.ReadBack.{AreRead, EachSpells}
 use Rattle.ssim_base.specs.declared.base.BaseRead.{BaseRead}
 use Rattle.ssim_base.specs.declared.fault.BaseFault.{BaseFault}
 use Rattle.ssim_base.specs.declared.fault.BaseFault.TheVariants as fault
@@ -138,25 +138,32 @@ NeverEnds limit CameFrom (fault.Read (ReadFault number)) = Unit {0}
 NeverEnds limit CameFrom (fault.Read (ReaderNeverEnds number)) = CameFrom (limit + 1)
 NeverEnds limit CameFrom (fault.Refused number refusal) = Unit {0}
 
--- the number after the complete records of the bytes that came, which are all bytes but those that
--- the reader has left
-abbrev pub IsAfterComplete : Option (List ℕ) → Option (List ℕ) → ℕ → Type 0
-IsAfterComplete None left number = Unit {0}
-IsAfterComplete (Some all) None number = ⊥
-IsAfterComplete (Some all) (Some left) number =
-    (came : List ℕ) × (blocks : List (List ℕ)) × (rest : List ℕ) × (all ≡ came ++ left)
-    × Frames 0 false came blocks rest × (number ≡ length blocks + 1)
+-- These are the complete records, fill included, of the bytes that came. All bytes but those that
+-- the reader has left came.
+abbrev pub AreComplete : List ℕ → Option (List ℕ) → List (List ℕ) → Type 0
+AreComplete all None blocks = ⊥
+AreComplete all (Some left) blocks =
+    (came : List ℕ) × (rest : List ℕ) × (all ≡ came ++ left) × Frames 0 false came blocks rest
 
--- if the fault is 13, its number is the one after the complete records that came before the reader
--- failed, fill included
+-- The record after the complete ones that came has this number. Nothing is said if the reader does
+-- not report its bytes.
+abbrev pub IsAfterComplete : Option (List ℕ) → Option (List ℕ) → ℕ → Type 0
+IsAfterComplete all left number = IfSome all (λ bytes.
+    (blocks : List (List ℕ)) × AreComplete bytes left blocks × (number ≡ length blocks + 1))
+
+-- each of these blocks is fill, or spells a record that is allowed after the records before it
+abbrev pub AreAllowed : List (List ℕ) → Type 0
+AreAllowed blocks =
+    (records : List (ℕ × Record)) × EachSpells (others 0 blocks) records
+    × ((k : ℕ) → IsAllowed records k)
+
+-- If the fault is 13, each complete record that came before the reader failed is allowed, and 13
+-- names the record after them. Nothing is said if the reader does not report its bytes.
 abbrev pub FailsAfter : Option (List ℕ) → Option (List ℕ) → BaseFault → Type 0
-FailsAfter all left fault.Memory = Unit {0}
-FailsAfter all left (fault.Read (Short number)) = Unit {0}
-FailsAfter all left (fault.Read (BadType number)) = Unit {0}
-FailsAfter all left (fault.Read (BadColumn number column)) = Unit {0}
-FailsAfter all left (fault.Read (ReadFault number)) = IsAfterComplete all left number
-FailsAfter all left (fault.Read (ReaderNeverEnds number)) = Unit {0}
-FailsAfter all left (fault.Refused number refusal) = Unit {0}
+FailsAfter all left (fault.Read (ReadFault number)) = IfSome all (λ bytes.
+    (blocks : List (List ℕ)) × AreComplete bytes left blocks × AreAllowed blocks
+    × (number ≡ length blocks + 1))
+FailsAfter all left _ = Unit {0}
 
 -- ---- reading to the end
 
@@ -196,18 +203,25 @@ abbrev pub IsAfterInvalid : ℕ → Option (List ℕ) → ℕ → Type 0
 IsAfterInvalid limit known number =
     (invalid : BaseFault) × IsReadOf limit known (Err invalid) × IsRecordAfter invalid number
 
--- Which record a 13 or a 14 names: the record after the invalid one, if one came before. Else at 13
--- the record after the complete ones that came, and at 14 the record that the bytes are read as.
+-- The record after the first invalid one of these blocks has this number. If each of them is
+-- allowed, it is the record after all of them.
+abbrev pub IsNext : ℕ → List ℕ → List (List ℕ) → ℕ → Type 0
+IsNext limit bytes blocks number =
+    (IsAfterInvalid limit (Some bytes) number × (number ≤ length blocks + 1))
+    ⊎ (AreAllowed blocks × (number ≡ length blocks + 1))
+
+-- Which record a 13 or a 14 names. At 13 it is the record after the first invalid one of those that
+-- came whole, or, if each of them is allowed, the record after them. At 14 the bytes within the
+-- limit are read as one fault: as 14, which names this record, or as that of the first invalid
+-- record, and then it is the record after this one. So there is one such number. Nothing is said if
+-- the reader does not report its bytes.
 abbrev pub NamesNext : ℕ → Option (List ℕ) → Option (List ℕ) → BaseFault → Type 0
-NamesNext limit all left fault.Memory = Unit {0}
-NamesNext limit all left (fault.Read (Short n)) = Unit {0}
-NamesNext limit all left (fault.Read (BadType n)) = Unit {0}
-NamesNext limit all left (fault.Read (BadColumn n column)) = Unit {0}
-NamesNext limit all left (fault.Read (ReadFault n)) =
-    IsAfterComplete all left n ⊎ IsAfterInvalid limit all n
+NamesNext limit all left (fault.Read (ReadFault n)) = IfSome all (λ bytes.
+    (blocks : List (List ℕ)) × AreComplete bytes left blocks × IsNext limit bytes blocks n)
 NamesNext limit all left (fault.Read (ReaderNeverEnds n)) =
-    IsReadOf limit all (Err (fault.Read (ReaderNeverEnds n))) ⊎ IsAfterInvalid limit all n
-NamesNext limit all left (fault.Refused n refusal) = Unit {0}
+    (read : BaseFault) × IsReadOf limit all (Err read)
+    × ((read ≡ fault.Read (ReaderNeverEnds n)) ⊎ IsRecordAfter read n)
+NamesNext limit all left _ = Unit {0}
 
 -- ---- reading back what was written
 

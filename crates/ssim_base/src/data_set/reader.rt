@@ -1,6 +1,7 @@
 //! The reading of a data set, record by record, with the notes on it.
 
-ghost use Rattle.std.specs.Prelude.{◌≡◌, ◌+◌, ◌<◌, ◌^◌, ◌∷◌, ◌++◌, [], true, List, IfErr, IfOk, OnOk};
+ghost use Rattle.std.specs.Prelude.{◌≡◌, ◌+◌, ◌<◌, ◌^◌, ◌∷◌, ◌++◌, [], false, true, List, IfErr, IfOk, OnOk};
+ghost use Rattle.ssim_records.specs.Blocks.{Fetches};
 ghost use Rattle.ssim_records.specs.Record.{IsRecord, serial_of};
 ghost use Rattle.ssim_records.specs.declared.record.Record.{Record};
 ghost use Rattle.ssim_base.specs.internal.DataSetReader.{HasRead, unread};
@@ -121,6 +122,8 @@ pub(crate) fn read_records<R: Source, L: RecordSink>(
     ensures next { IfErr result (λ e.
         is_of_bytes e ≡ true → IsRecordAfter e (blocks.new.number + 1)) }
     ensures limit { IfErr result (λ _. blocks.new.limit ≡ blocks.old.limit) }
+    ensures fetched { IfErr result (λ _. Fetches false 0 [] (R.state reader.old).left
+        blocks.new.number blocks.new.held (R.state reader.new).left) }
     ensures came { IfErr result (λ _.
         Came (R.state reader.old) (R.state reader.new) blocks.new.came) }
 {

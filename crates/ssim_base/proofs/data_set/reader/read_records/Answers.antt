@@ -8,6 +8,7 @@ use Rattle.ssim_records.specs.declared.record.Record.{Record}
 use Rattle.ssim_base.specs.Base.{Done, kept}
 use Rattle.ssim_base.specs.Reading.{Came}
 use Rattle.ssim_base.specs.internal.Reading.{AreGivenOf}
+use Rattle.ssim_base.specs.declared.fault.BaseFault.TheVariants.{Memory}
 use Rattle.ssim_base.proofs.ReadingLemmas.{Numbered, Told, after-fault, after-refused, came-in, ended-beyond, fails-after, never-refused, never-fails, step-refused, while-open, nothing, one-more, told-end, told-fault, told-first, told-step}
 use Rattle.ssim_base.proofs.data_set.reader.read_records.Goals as goal
 
@@ -123,11 +124,50 @@ returns-in-Err-clause-fails_after g c =
     let i = c.loop-number.invariant in
     let old = c.loop-number.blocks in
     let new = c.next_into.new.self in
-    let answer : given c.next_into.new.into c.next_into.result ≡ Err c.in-Err.fault = rw c.in-Err.is refl in
-    let fetched = fetches_on 0 old.number new.number old.number new.number [] old.held new.held _ _ _ i.fetched (while-open old.ended i.open' c.next_into.ensures.fetched) (omega arith) in
-    let number = subst (λ (a : Answer). HasNumber new.number a) answer (while-open old.ended i.open' c.next_into.ensures.number) in
-    let few = subst (λ (a : Answer). HoldsFew new.held a) answer (while-open old.ended i.open' c.next_into.ensures.few_left) in
-    fails-after (g.R.Source.state c.args.reader.now).left (g.R.Source.state c.next_into.new.reader).left new.number new.held c.in-Err.fault fetched number few
+    let answer : given c.next_into.new.into c.next_into.result ≡ Err c.in-Err.fault =
+    rw c.in-Err.is refl in
+    let gives =
+    subst (λ (a : Answer). GivesNext old (g.R.Source.state c.loop-number.reader).left new
+    (g.R.Source.state c.next_into.new.reader).left a) answer
+    (while-open old.ended i.open' c.next_into.ensures.record) in
+    let more = while-open old.ended i.open' c.next_into.ensures.fetched in
+    let fetched =
+    fetches_on 0 old.number new.number old.number new.number [] old.held new.held _ _ _ i.fetched
+    more (omega arith) in
+    let number = subst (λ (a : Answer). HasNumber new.number a) answer
+    (while-open old.ended i.open' c.next_into.ensures.number) in
+    let few = subst (λ (a : Answer). HoldsFew new.held a) answer
+    (while-open old.ended i.open' c.next_into.ensures.few_left) in
+    fails-after c.args.blocks.now.limit (g.R.Source.state c.args.reader.now).left
+    (g.R.Source.state c.loop-number.reader).left (g.R.Source.state c.next_into.new.reader).left
+    old new c.loop-number.records_read i.earlier i.done c.in-Err.fault i.so_far i.told gives more
+    fetched number few
+
+pub returns-in_err-take-in-Some-clause-fetched : goal.returns-in_err-take-in-Some-clause-fetched
+returns-in_err-take-in-Some-clause-fetched g c =
+    let i = c.loop-number.invariant in
+    let old = c.loop-number.blocks in
+    let new = c.next_into.new.self in
+    let refusal : c.from_residual.result ≡ Err c.in_err-take-in-Some.field-0.0 = search rules in
+    rw refusal (fetches_on 0 old.number new.number old.number new.number [] old.held new.held _ _ _
+    i.fetched (while-open old.ended i.open' c.next_into.ensures.fetched) (omega arith))
+
+pub returns-in_err-push_record-in-Some-clause-fetched : goal.returns-in_err-push_record-in-Some-clause-fetched
+returns-in_err-push_record-in-Some-clause-fetched g c =
+    let i = c.loop-number.invariant in
+    let old = c.loop-number.blocks in
+    let new = c.next_into.new.self in
+    let refusal : c.from_residual-in_err-push_record-in-Some.result ≡ Err Memory = search rules in
+    rw refusal (fetches_on 0 old.number new.number old.number new.number [] old.held new.held _ _ _
+    i.fetched (while-open old.ended i.open' c.next_into.ensures.fetched) (omega arith))
+
+pub returns-in-Err-clause-fetched : goal.returns-in-Err-clause-fetched
+returns-in-Err-clause-fetched g c =
+    let i = c.loop-number.invariant in
+    let old = c.loop-number.blocks in
+    let new = c.next_into.new.self in
+    fetches_on 0 old.number new.number old.number new.number [] old.held new.held _ _ _ i.fetched
+    (while-open old.ended i.open' c.next_into.ensures.fetched) (omega arith)
 
 pub returns-in-Err-clause-never_ends : goal.returns-in-Err-clause-never_ends
 returns-in-Err-clause-never_ends g c =

@@ -20,8 +20,10 @@ returns-in-Err-skip_rest-clause-names g c =
     let told = (g.R.Source.state c.args.reader.now).left in
     let limit = ap (λ (r : Reading). r.limit) c.new-blocks.ensures in
     let is = sym c.is_of_bytes.ensures ∙ c.if-not-is_of_bytes.false in
-    names-rest c.args.limit told (g.R.Source.state c.skip_rest.new.reader).left c.in-Err.fault
-    c.read_records.new.blocks.number (g.R.Source.state c.read_records.new.reader)
-    (g.R.Source.state c.skip_rest.new.reader) c.skip_rest.new.self c.in-Err-skip_rest.rest is
+    names-rest c.args.limit told c.in-Err.fault
+    c.read_records.new.blocks.number c.read_records.new.blocks.held
+    (g.R.Source.state c.read_records.new.reader) (g.R.Source.state c.skip_rest.new.reader)
+    c.skip_rest.new.self c.in-Err-skip_rest.rest is
     (subst (λ (n : ℕ). Refuses n told c.in-Err.fault) limit c.in-Err.ensures.err)
-    (c.in-Err.ensures.next is) c.skip_rest.ensures.number c.in-Err-skip_rest.ensures.fault
+    (c.in-Err.ensures.next is) c.in-Err.ensures.fetched c.skip_rest.ensures.left
+    c.skip_rest.ensures.number c.in-Err-skip_rest.ensures.fault

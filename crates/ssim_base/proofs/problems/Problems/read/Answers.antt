@@ -7,7 +7,7 @@ use Rattle.ssim_records.proofs.Framing.{counts_none, counts_twice, fetches_first
 use Rattle.ssim_base.specs.Problems.{missing_in, numbered}
 use Rattle.ssim_base.specs.declared.fault.BaseFault.TheVariants.{Read}
 use Rattle.ssim_base.proofs.ProblemLemmas.{ToldBlocks, none-so-far, one-so-far, names-last, problems-cut, problems-end, told-block, told-none}
-use Rattle.ssim_base.proofs.ReadingLemmas.{fails-after, while-open}
+use Rattle.ssim_base.proofs.ReadingLemmas.{while-open}
 use Rattle.ssim_base.proofs.problems.Problems.read.Goals as goal
 
 pub loop-next-init : goal.loop-next-init
@@ -116,5 +116,5 @@ returns-in-Err-clause-names g c =
     let few =
     subst (λ (a : BlockAnswer). HoldsFew new.held (without_block a)) answer
     (while-open old.ended i.open' c.next_block.ensures.few_left) in
-    names-last c.args.limit before left after old new i.blocks c.in-Err.fault
-    (fails-after before after new.number new.held c.in-Err.fault fetched number few) i.told gives number
+    names-last c.args.limit before left after old new i.blocks c.in-Err.fault fetched few i.told
+    gives number
