@@ -42,10 +42,7 @@ first_of (answer ∷ answers) = or_else answer (first_of answers)
 abbrev pub airline_of : List Record → List ℕ
 airline_of [] = []
 airline_of (Carrier r ∷ records) = r.airline
-airline_of (Header r ∷ records) = airline_of records
-airline_of (Leg r ∷ records) = airline_of records
-airline_of (Segment r ∷ records) = airline_of records
-airline_of (Trailer r ∷ records) = airline_of records
+airline_of (_ ∷ records) = airline_of records
 
 -- the last day of a carrier record's validity; an open end means 730 days after the start, within
 -- the calendar
@@ -56,10 +53,7 @@ end_of r = unwrap_or r.last (min (r.first + 730) (day_limit - 1))
 abbrev pub carrier_end : List Record → ℕ
 carrier_end [] = 0
 carrier_end (Carrier r ∷ records) = end_of r
-carrier_end (Header r ∷ records) = carrier_end records
-carrier_end (Leg r ∷ records) = carrier_end records
-carrier_end (Segment r ∷ records) = carrier_end records
-carrier_end (Trailer r ∷ records) = carrier_end records
+carrier_end (_ ∷ records) = carrier_end records
 
 -- a leg record with its last day; an open end means the last day of the carrier's validity
 abbrev pub closed : ℕ → LegFields → LegFields
@@ -67,29 +61,20 @@ closed end' r = record r { last = Some (unwrap_or r.last end') }
 
 -- whether a record is a trailer
 abbrev pub is_trailer : Record → Bool
-is_trailer (Header r) = false
-is_trailer (Carrier r) = false
-is_trailer (Leg r) = false
-is_trailer (Segment r) = false
 is_trailer (Trailer r) = true
+is_trailer _ = false
 
 -- whether a record gives a leg of this flight and sequence on a date of this period
 abbrev pub overlaps : Name → DayRange → Record → Bool
-overlaps name period (Header e) = false
-overlaps name period (Carrier e) = false
 overlaps name period (Leg e) =
     (same_flight name.flight e.name.flight && nat_eq name.sequence e.name.sequence)
     && meet period (period_of e)
-overlaps name period (Segment e) = false
-overlaps name period (Trailer e) = false
+overlaps name period _ = false
 
 -- whether a record is a leg record with this name
 abbrev pub is_leg_named : Name → Record → Bool
-is_leg_named name (Header r) = false
-is_leg_named name (Carrier r) = false
 is_leg_named name (Leg r) = same_name name r.name
-is_leg_named name (Segment r) = false
-is_leg_named name (Trailer r) = false
+is_leg_named name _ = false
 
 -- ---- why a record is refused
 
@@ -102,9 +87,7 @@ place_refusal (first ∷ []) (Carrier r) = None
 place_refusal (first ∷ []) _ = Some refused.NoCarrier
 place_refusal (last ∷ second ∷ more) (Header r) = Some refused.BadType
 place_refusal (last ∷ second ∷ more) (Carrier r) = Some refused.BadType
-place_refusal (last ∷ second ∷ more) (Leg r) = refuse_if (is_trailer last) refused.BadType
-place_refusal (last ∷ second ∷ more) (Segment r) = refuse_if (is_trailer last) refused.BadType
-place_refusal (last ∷ second ∷ more) (Trailer r) = refuse_if (is_trailer last) refused.BadType
+place_refusal (last ∷ second ∷ more) _ = refuse_if (is_trailer last) refused.BadType
 
 -- whether an overflow byte means an overflow: it is neither blank nor 0
 abbrev pub is_overflow : ℕ → Bool
@@ -121,8 +104,6 @@ is_continued End = false
 
 -- the first refusal of a record's own fields, checked against the earlier records
 abbrev pub own_refusal : List Record → Record → Option BaseRefusal
-own_refusal earlier (Header r) = None
-own_refusal earlier (Carrier r) = None
 own_refusal earlier (Leg r) =
     let leg = closed (carrier_end earlier) r in
     first_of (
@@ -141,6 +122,7 @@ own_refusal earlier (Trailer r) = first_of (
     refuse_if (not (bytes_eq r.airline (airline_of earlier))) refused.OtherAirline
     ∷ refuse_if (is_continued r.code) refused.Continuation
     ∷ [])
+own_refusal earlier _ = None
 
 -- the refusal of a record after the earlier ones: of its order first, then of its fields
 abbrev pub refusal_at : List Record → Record → Option BaseRefusal
@@ -225,10 +207,7 @@ note_if test note = if test then note ∷ [] else []
 abbrev pub check_notes : ℕ → ℕ → Record → List Note
 check_notes number previous (Trailer r) =
     note_if (not (nat_eq r.check previous)) (CheckReference number)
-check_notes number previous (Header r) = []
-check_notes number previous (Carrier r) = []
-check_notes number previous (Leg r) = []
-check_notes number previous (Segment r) = []
+check_notes number previous _ = []
 
 -- the notes of records with their numbers; the serial of the record before the first is taken as 0
 abbrev pub notes_of : ℕ → List (ℕ × Record) → List Note

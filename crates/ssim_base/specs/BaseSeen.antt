@@ -4,7 +4,7 @@ use Rattle.std.specs.List.{All, list_any}
 use Rattle.ssim_values.specs.Flight.{FlightNumber, IsFlight}
 use Rattle.ssim_records.specs.Record.{IsRecord}
 use Rattle.ssim_records.specs.declared.record.Record.{Record}
-use Rattle.ssim_records.specs.declared.record.Record.TheVariants.{Header, Carrier, Leg, Segment, Trailer}
+use Rattle.ssim_records.specs.declared.record.Record.TheVariants.{Leg}
 use Rattle.ssim_base.specs.Base.{Ending, data_set}
 use Rattle.ssim_base.specs.ReadBack.{Rise}
 use Rattle.ssim_base.specs.Stations.{Row}
@@ -30,11 +30,8 @@ pub record WasRead (base : List Record) : Type 0 where
 
 -- whether a record is a leg of the flight
 abbrev pub is_leg_of : FlightNumber → Record → Bool
-is_leg_of flight (Header r) = false
-is_leg_of flight (Carrier r) = false
 is_leg_of flight (Leg r) = same_flight flight r.name.flight
-is_leg_of flight (Segment r) = false
-is_leg_of flight (Trailer r) = false
+is_leg_of flight _ = false
 
 -- the flights of the leg records, each once, rising by number and suffix
 pub record AreFlights (records : List Record) (flights : List FlightNumber) : Type 0 where

@@ -4,9 +4,9 @@ use Rattle.std.specs.List.{list_any}
 use Rattle.ssim_records.specs.Frames.{Frames, others}
 use Rattle.ssim_records.specs.Record.{Spells, fault_of}
 use Rattle.ssim_records.specs.declared.fault.RecordFault.{RecordFault}
-use Rattle.ssim_records.specs.declared.fault.RecordFault.TheVariants.{Short, BadType, BadColumn, ReadFault, ReaderNeverEnds}
+use Rattle.ssim_records.specs.declared.fault.RecordFault.TheVariants.{Short, ReadFault, ReaderNeverEnds}
 use Rattle.ssim_records.specs.declared.record.Record.{Record}
-use Rattle.ssim_records.specs.declared.record.Record.TheVariants.{Header, Carrier, Leg, Segment, Trailer}
+use Rattle.ssim_records.specs.declared.record.Record.TheVariants.{Leg, Segment, Trailer}
 use Rattle.ssim_base.specs.Base.{first_of, is_continued, is_overflow, is_rate, kept, missing, refusal_at, refuse_if}
 use Rattle.ssim_base.specs.declared.fault.BaseFault.{BaseFault}
 use Rattle.ssim_base.specs.Reading.{AreBlocks, IsAfterComplete}
@@ -30,10 +30,9 @@ Says number block (Err fault) = fault_of number block ≡ Some fault
 -- what the numbered blocks say, one after another
 abbrev pub AreItems : List (ℕ × List ℕ) → List (ℕ × Item) → Type 0
 AreItems [] [] = Unit {0}
-AreItems [] (item ∷ items) = ⊥
-AreItems (block ∷ blocks) [] = ⊥
 AreItems (block ∷ blocks) (item ∷ items) =
     (block.0 ≡ item.0) × Says block.0 block.1 item.1 × AreItems blocks items
+AreItems _ _ = ⊥
 
 -- whether a block begins with `5`, as a trailer does
 abbrev pub begins_as_trailer : ℕ × List ℕ → Bool
@@ -49,14 +48,13 @@ pub data Standing : Type 0 where
 
 -- the refusal of a record by its own columns, whatever records come before it
 abbrev pub alone_refusal : Record → Option BaseRefusal
-alone_refusal (Header r) = None
-alone_refusal (Carrier r) = None
 alone_refusal (Leg r) = first_of (
     refuse_if (is_overflow r.overflow) refused.Overflow
     ∷ refuse_if (not (is_rate r.rate)) refused.Frequency
     ∷ [])
 alone_refusal (Segment r) = refuse_if (is_overflow r.overflow) refused.Overflow
 alone_refusal (Trailer r) = refuse_if (is_continued r.code) refused.Continuation
+alone_refusal _ = None
 
 -- why a record is refused: after the valid records before it, or by itself
 abbrev pub refusal_in : Standing → Record → Option BaseRefusal
@@ -75,9 +73,8 @@ problem_in standing (number, Err fault) = Read fault ∷ []
 
 -- whether the header or the carrier record comes next
 abbrev pub is_at_heading : List Record → Bool
-is_at_heading [] = true
-is_at_heading (header ∷ []) = true
 is_at_heading (last ∷ second ∷ more) = false
+is_at_heading _ = true
 
 -- after an invalid record: the valid records stay, unless it stands for the header or the carrier
 abbrev pub after_invalid : List Record → Standing
@@ -150,13 +147,9 @@ IsAfterLimit limit (Some bytes) number =
 -- Which record a 13 or a 14 names if invalid records are read, too: at 13 the record after the
 -- complete ones that came, at 14 the one after the complete ones within the limit.
 abbrev pub NamesLast : ℕ → Option (List ℕ) → Option (List ℕ) → BaseFault → Type 0
-NamesLast limit all left fault.Memory = Unit {0}
-NamesLast limit all left (fault.Read (Short n)) = Unit {0}
-NamesLast limit all left (fault.Read (BadType n)) = Unit {0}
-NamesLast limit all left (fault.Read (BadColumn n column)) = Unit {0}
 NamesLast limit all left (fault.Read (ReadFault n)) = IsAfterComplete all left n
 NamesLast limit all left (fault.Read (ReaderNeverEnds n)) = IsAfterLimit limit all n
-NamesLast limit all left (fault.Refused n refusal) = Unit {0}
+NamesLast limit all left _ = Unit {0}
 
 -- Bytes have one list of problems.
 abbrev pub SameBytesSameProblems : Type 0

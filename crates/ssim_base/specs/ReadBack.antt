@@ -90,10 +90,9 @@ items_of = flat_map section_items
 -- the numbered blocks spell the numbered records
 abbrev pub EachSpells : List (ℕ × List ℕ) → List (ℕ × Record) → Type 0
 EachSpells [] [] = Unit {0}
-EachSpells [] (r ∷ records) = ⊥
-EachSpells (block ∷ blocks) [] = ⊥
 EachSpells (block ∷ blocks) (r ∷ records) =
     (block.0 ≡ r.0) × Spells r.1 block.1 × EachSpells blocks records
+EachSpells _ _ = ⊥
 
 -- The bytes are `count` blocks with nothing left over. The blocks that are not fill spell these
 -- records, with their numbers.

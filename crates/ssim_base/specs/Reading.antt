@@ -104,25 +104,18 @@ IsReadOf limit (Some bytes) outcome = IsReadAs limit bytes outcome
 abbrev pub Returns : Result BaseRead BaseFault → (Outcome → Type 0) → Type 0
 Returns (Ok read) P = P (Ok (read.base.records, read.notes.items))
 Returns (Err fault.Memory) P = Unit {0}
-Returns (Err (fault.Read f)) P = P (Err (fault.Read f))
-Returns (Err (fault.Refused number refusal)) P = P (Err (fault.Refused number refusal))
+Returns (Err refusal) P = P (Err refusal)
 
 -- the reader's failures are counted: one more if the fault is 13, else none
 abbrev pub FailsAs : ℕ → ℕ → BaseFault → Type 0
-FailsAs old new fault.Memory = new ≡ old
-FailsAs old new (fault.Read (Short number)) = new ≡ old
-FailsAs old new (fault.Read (BadType number)) = new ≡ old
-FailsAs old new (fault.Read (BadColumn number column)) = new ≡ old
 FailsAs old new (fault.Read (ReadFault number)) = new ≡ (old + 1) % 2 ^ 64
-FailsAs old new (fault.Read (ReaderNeverEnds number)) = new ≡ old
-FailsAs old new (fault.Refused number refusal) = new ≡ old
+FailsAs old new _ = new ≡ old
 
 -- n bytes were fetched: n fewer are left or, if the bytes left are not known, the count is n more
 abbrev pub HaveCome : Option (List ℕ) → Option (List ℕ) → ℕ → ℕ → ℕ → Type 0
 HaveCome (Some left) (Some left') old new n = n + length left' ≡ length left
-HaveCome (Some left) None old new n = ⊥
-HaveCome None (Some left') old new n = ⊥
 HaveCome None None old new n = new % 2 ^ 128 ≡ (old + n) % 2 ^ 128
+HaveCome _ _ old new n = ⊥
 
 -- n bytes came from a reader
 abbrev pub Came : Reader → Reader → ℕ → Type 0
@@ -130,13 +123,8 @@ Came old new = HaveCome old.left new.left old.came new.came
 
 -- if the fault is 14, one byte more came than the limit
 abbrev pub NeverEnds : ℕ → (ℕ → Type 0) → BaseFault → Type 0
-NeverEnds limit CameFrom fault.Memory = Unit {0}
-NeverEnds limit CameFrom (fault.Read (Short number)) = Unit {0}
-NeverEnds limit CameFrom (fault.Read (BadType number)) = Unit {0}
-NeverEnds limit CameFrom (fault.Read (BadColumn number column)) = Unit {0}
-NeverEnds limit CameFrom (fault.Read (ReadFault number)) = Unit {0}
 NeverEnds limit CameFrom (fault.Read (ReaderNeverEnds number)) = CameFrom (limit + 1)
-NeverEnds limit CameFrom (fault.Refused number refusal) = Unit {0}
+NeverEnds limit CameFrom _ = Unit {0}
 
 -- These are the complete records, fill included, of the bytes that came. All bytes but those that
 -- the reader has left came.
@@ -176,27 +164,18 @@ IsWholeOf limit known outcome =
 -- and the fault is what they are read as.
 abbrev pub RefusesWhole : ℕ → Option (List ℕ) → BaseFault → Type 0
 RefusesWhole limit known fault.Memory = Unit {0}
-RefusesWhole limit known (fault.Read (Short number)) =
-    IsWholeOf limit known (Err (fault.Read (Short number)))
-RefusesWhole limit known (fault.Read (BadType number)) =
-    IsWholeOf limit known (Err (fault.Read (BadType number)))
-RefusesWhole limit known (fault.Read (BadColumn number column)) =
-    IsWholeOf limit known (Err (fault.Read (BadColumn number column)))
 RefusesWhole limit known (fault.Read (ReadFault number)) = Unit {0}
 RefusesWhole limit known (fault.Read (ReaderNeverEnds number)) = Unit {0}
-RefusesWhole limit known (fault.Refused number refusal) =
-    IsWholeOf limit known (Err (fault.Refused number refusal))
+RefusesWhole limit known refusal = IsWholeOf limit known (Err refusal)
 
 -- The record after the invalid one has this number. An incomplete record is not counted: bytes that
 -- come later belong to it.
 abbrev pub IsRecordAfter : BaseFault → ℕ → Type 0
-IsRecordAfter fault.Memory number = ⊥
 IsRecordAfter (fault.Read (Short n)) number = number ≡ n
 IsRecordAfter (fault.Read (BadType n)) number = number ≡ n + 1
 IsRecordAfter (fault.Read (BadColumn n column)) number = number ≡ n + 1
-IsRecordAfter (fault.Read (ReadFault n)) number = ⊥
-IsRecordAfter (fault.Read (ReaderNeverEnds n)) number = ⊥
 IsRecordAfter (fault.Refused n refusal) number = number ≡ n + 1
+IsRecordAfter _ number = ⊥
 
 -- The bytes have an invalid record, or lack one at their end. The record after it has this number.
 abbrev pub IsAfterInvalid : ℕ → Option (List ℕ) → ℕ → Type 0

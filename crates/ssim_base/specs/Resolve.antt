@@ -94,22 +94,20 @@ pub record IsResolved (carrier : CarrierFields) (sub : Sub) (resolved : Resolved
 
 -- why the sub-message with this number does not resolve
 abbrev pub IsSubRefused : CarrierFields → ℕ → Sub → ResolveFault → Type 0
-IsSubRefused carrier n sub fault.Memory = ⊥
-IsSubRefused carrier n sub fault.TimeMode = ⊥
 IsSubRefused carrier n sub (fault.Airline number) =
     (number ≡ n) × (sub.designator.airline ≢ carrier.airline)
 IsSubRefused carrier n sub (fault.NoSuchDate number) =
     (number ≡ n) × (sub.designator.airline ≡ carrier.airline) × LackYear carrier sub.dates
 IsSubRefused carrier n sub (fault.Period number) =
     (number ≡ n) × (sub.designator.airline ≡ carrier.airline) × AreTurned carrier sub.dates
+IsSubRefused carrier n sub _ = ⊥
 
 -- each sub-message resolves, in order
 abbrev pub AreResolved : CarrierFields → List Sub → List ResolvedSub → Type 0
 AreResolved carrier [] [] = Unit {0}
-AreResolved carrier [] (r ∷ resolved) = ⊥
-AreResolved carrier (sub ∷ subs) [] = ⊥
 AreResolved carrier (sub ∷ subs) (r ∷ resolved) =
     IsResolved carrier sub r × AreResolved carrier subs resolved
+AreResolved carrier _ _ = ⊥
 
 -- the first sub-message that is refused, among those from number n on
 abbrev pub IsFirstRefused : CarrierFields → ℕ → List Sub → ResolveFault → Type 0
@@ -123,9 +121,8 @@ IsFirstRefused carrier n (sub ∷ subs) fault =
 -- whether the time modes of message and carrier are the same
 abbrev pub same_mode : TimeMode → TimeMode → Bool
 same_mode Utc Utc = true
-same_mode Utc Local = false
-same_mode Local Utc = false
 same_mode Local Local = true
+same_mode _ _ = false
 
 -- The message resolves to its reference with a full date, on or after the day on which the data set
 -- was made, and to its sub-messages with full dates.
@@ -187,21 +184,15 @@ IsRefusedIn base message fault =
 abbrev pub IsOutcome : List Record → MessageValue → Result ResolvedText ResolveFault → Type 0
 IsOutcome base message (Ok text) = ResolvesIn base message text
 IsOutcome base message (Err fault.Memory) = ⊥
-IsOutcome base message (Err fault.TimeMode) = IsRefusedIn base message fault.TimeMode
-IsOutcome base message (Err (fault.Airline number)) =
-    IsRefusedIn base message (fault.Airline number)
-IsOutcome base message (Err (fault.NoSuchDate number)) =
-    IsRefusedIn base message (fault.NoSuchDate number)
-IsOutcome base message (Err (fault.Period number)) = IsRefusedIn base message (fault.Period number)
+IsOutcome base message (Err refusal) = IsRefusedIn base message refusal
 
 -- two results have the same reference and the same sub-messages, or the same refusal
 abbrev pub IsSameOutcome : Result ResolvedText ResolveFault → Result ResolvedText ResolveFault
     → Type 0
 IsSameOutcome (Ok text) (Ok other) =
     (text.reference ≡ other.reference) × (text.subs.items ≡ other.subs.items)
-IsSameOutcome (Ok text) (Err fault) = ⊥
-IsSameOutcome (Err fault) (Ok text) = ⊥
 IsSameOutcome (Err fault) (Err other) = fault ≡ other
+IsSameOutcome _ _ = ⊥
 
 -- a base and a message have at most one outcome
 abbrev pub HasOneOutcome : Type 0

@@ -45,15 +45,13 @@ BeginsNoBase count (Some bytes) =
 -- why bytes are not read as the lines of this many records: there are none, the reader stopped, or
 -- out of memory
 abbrev pub RefusesLines : ℕ → Option (List ℕ) → SavedFault → Type 0
-RefusesLines count bytes fault.Memory = Unit {0}
-RefusesLines count bytes (fault.Read stop) = Unit {0}
 RefusesLines count bytes (fault.Invalid offset) = BeginsNoBase count bytes
+RefusesLines count bytes _ = Unit {0}
 
 -- an invalid line comes after the bytes that were used
 abbrev pub IsAfterUsed : Input → SavedFault → Type 0
-IsAfterUsed input fault.Memory = Unit {0}
-IsAfterUsed input (fault.Read stop) = Unit {0}
 IsAfterUsed input (fault.Invalid offset) = offset ≡ input.came - length input.held
+IsAfterUsed input _ = Unit {0}
 
 -- The reader stopped if the fault says so. Else it did not fail, and at an invalid line it gave the
 -- bytes that came.

@@ -31,9 +31,8 @@ pub record SpellsRow (row : Row) (line : List ℕ) : Type 0 where
 -- each of these lines spells its row, in order
 abbrev pub AreRows : List Row → List (ℕ × List ℕ) → Type 0
 AreRows [] [] = Unit {0}
-AreRows [] (line ∷ lines) = ⊥
-AreRows (row ∷ rows) [] = ⊥
 AreRows (row ∷ rows) (line ∷ lines) = SpellsRow row line.1 × AreRows rows lines
+AreRows _ _ = ⊥
 
 -- the bytes are a table of these rows: each line that is not dropped spells one row
 abbrev pub SpellsTable : List Row → List ℕ → Type 0

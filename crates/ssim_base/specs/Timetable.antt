@@ -7,7 +7,7 @@ use Rattle.ssim_periods.specs.Calendar.{holds}
 use Rattle.ssim_periods.specs.Days.{each_day}
 use Rattle.ssim_records.specs.Leg.{LegFields, Name}
 use Rattle.ssim_records.specs.declared.record.Record.{Record}
-use Rattle.ssim_records.specs.declared.record.Record.TheVariants.{Header, Carrier, Leg, Segment, Trailer}
+use Rattle.ssim_records.specs.declared.record.Record.TheVariants.{Leg, Segment}
 
 -- a leg of an itinerary: its sequence, the 158 bytes of its own columns, and its tails of 179 bytes
 pub record LegValue : Type 0 where
@@ -33,12 +33,10 @@ same_name a b =
 -- record with that name
 abbrev pub tails_of : Name → List Record → List (List ℕ)
 tails_of name [] = []
-tails_of name (Header r ∷ later) = tails_of name later
-tails_of name (Carrier r ∷ later) = tails_of name later
 tails_of name (Leg r ∷ later) = if same_name name r.name then [] else tails_of name later
 tails_of name (Segment r ∷ later) =
     if same_name name r.name then r.tail ∷ tails_of name later else tails_of name later
-tails_of name (Trailer r ∷ later) = tails_of name later
+tails_of name (_ ∷ later) = tails_of name later
 
 -- the leg that a leg record gives, with these records after it
 abbrev pub leg_of : LegFields → List Record → LegValue
@@ -62,13 +60,10 @@ placed l (m ∷ legs) = if nat_lt m.sequence l.sequence then m ∷ placed l legs
 -- holds the day
 abbrev pub itinerary : List Record → FlightNumber → ℕ → Legs
 itinerary [] flight day = []
-itinerary (Header r ∷ later) flight day = itinerary later flight day
-itinerary (Carrier r ∷ later) flight day = itinerary later flight day
 itinerary (Leg r ∷ later) flight day =
     if is_on r flight day then placed (leg_of r later) (itinerary later flight day)
     else itinerary later flight day
-itinerary (Segment r ∷ later) flight day = itinerary later flight day
-itinerary (Trailer r ∷ later) flight day = itinerary later flight day
+itinerary (_ ∷ later) flight day = itinerary later flight day
 
 -- whether the flight is in the list
 abbrev pub is_among : List FlightNumber → FlightNumber → Bool

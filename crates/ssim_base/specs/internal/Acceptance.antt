@@ -7,7 +7,7 @@ use Rattle.ssim_values.specs.Period.{DayRange}
 use Rattle.ssim_periods.specs.Calendar.{holds}
 use Rattle.ssim_records.specs.Leg.{LegFields, Name}
 use Rattle.ssim_records.specs.declared.record.Record.{Record}
-use Rattle.ssim_records.specs.declared.record.Record.TheVariants.{Header, Carrier, Leg, Segment, Trailer}
+use Rattle.ssim_records.specs.declared.record.Record.TheVariants.{Leg}
 use Rattle.ssim_base.specs.Base.{airline_of, carrier_end, is_trailer, is_leg_named, is_overflow, is_rate, refusal_at, kept}
 use Rattle.ssim_base.specs.BaseSeen.{is_leg_of}
 use Rattle.ssim_base.specs.internal.LegTable.{has_legs, legs_at, names_leg, uses_date}
@@ -23,15 +23,13 @@ use Rattle.ssim_base.specs.declared.fault.BaseFault.TheVariants as fault
 
 -- there are at least two records, and the latest is or is not a trailer
 abbrev pub Follows : Bool → List Record → Type 0
-Follows ended [] = ⊥
-Follows ended (last ∷ []) = ⊥
 Follows ended (last ∷ second ∷ more) = is_trailer last ≡ ended
+Follows ended _ = ⊥
 
 -- there is one record, the header
 abbrev pub IsHeaderAlone : List Record → Type 0
-IsHeaderAlone [] = ⊥
 IsHeaderAlone (last ∷ []) = Unit {0}
-IsHeaderAlone (last ∷ second ∷ more) = ⊥
+IsHeaderAlone _ = ⊥
 
 -- the records accepted so far are those after which this record is expected
 abbrev pub IsExpectedAfter : Expected → List Record → Type 0
@@ -44,12 +42,9 @@ IsExpectedAfter expected.End earlier = Follows true earlier
 
 -- whether a record gives a leg of this flight and sequence on a day
 abbrev pub gives : FlightNumber → ℕ → ℕ → Record → Bool
-gives flight sequence day (Header e) = false
-gives flight sequence day (Carrier e) = false
 gives flight sequence day (Leg e) =
     (same_flight flight e.name.flight && nat_eq sequence e.name.sequence) && holds (period_of e) day
-gives flight sequence day (Segment e) = false
-gives flight sequence day (Trailer e) = false
+gives flight sequence day _ = false
 
 -- the names, dates and flights of the table are those of these records
 pub record AreLegs (table : LegTable) (earlier : List Record) : Type 0 where
@@ -98,9 +93,8 @@ is_next_leg _ _ = false
 
 -- the state stays as it was at a refusal, but for a leg, which may be in the table
 abbrev pub Stays : Bool → Acceptance → Acceptance → BaseFault → Type 0
-Stays leg old new fault.Memory = Unit {0}
-Stays leg old new (fault.Read f) = Unit {0}
 Stays leg old new (fault.Refused n refusal) = leg ≡ false → new ≡ old
+Stays leg old new _ = Unit {0}
 
 -- the airline, overflow, rate and end of a leg record are valid, and its period is this one
 pub record AcceptsLeg (heading : CarrierTerms) (r : LegFields) (period : DayRange) : Type 0 where

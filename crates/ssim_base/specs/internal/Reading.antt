@@ -1,6 +1,6 @@
 -- How private functions say what was read, and why dates are invalid.
 use Rattle.std.specs.Prelude.{◌≡◌, ℕ, Bool, true, false, List, Option, Some, None, Result, Ok, Err}
-use Rattle.ssim_records.specs.declared.fault.RecordFault.TheVariants.{Short, BadType, BadColumn, ReadFault, ReaderNeverEnds}
+use Rattle.ssim_records.specs.declared.fault.RecordFault.TheVariants.{ReadFault, ReaderNeverEnds}
 use Rattle.ssim_records.specs.declared.record.Record.{Record}
 use Rattle.ssim_base.specs.Base.{Ending, Outcome}
 use Rattle.ssim_base.specs.declared.fault.BaseFault.{BaseFault}
@@ -26,26 +26,20 @@ abbrev pub ReturnsAs : {X : Type 0} → (X → List Record × List Note) → Res
     → (Outcome → Type 0) → Type 0
 ReturnsAs seen (Ok read) P = P (Ok (seen read))
 ReturnsAs seen (Err fault.Memory) P = Unit {0}
-ReturnsAs seen (Err (fault.Read f)) P = P (Err (fault.Read f))
-ReturnsAs seen (Err (fault.Refused number refusal)) P = P (Err (fault.Refused number refusal))
+ReturnsAs seen (Err refusal) P = P (Err refusal)
 
 -- the refusal is what the bytes are read as; out of memory says nothing of the bytes
 abbrev pub Refuses : ℕ → Option (List ℕ) → BaseFault → Type 0
 Refuses limit known fault.Memory = Unit {0}
-Refuses limit known (fault.Read f) = IsReadOf limit known (Err (fault.Read f))
-Refuses limit known (fault.Refused number refusal) =
-    IsReadOf limit known (Err (fault.Refused number refusal))
+Refuses limit known refusal = IsReadOf limit known (Err refusal)
 
 -- whether a fault is of the bytes: neither did memory run out, nor did the reader fail (13), nor
 -- did more bytes come than the limit (14)
 abbrev pub is_of_bytes : BaseFault → Bool
 is_of_bytes fault.Memory = false
-is_of_bytes (fault.Read (Short number)) = true
-is_of_bytes (fault.Read (BadType number)) = true
-is_of_bytes (fault.Read (BadColumn number column)) = true
 is_of_bytes (fault.Read (ReadFault number)) = false
 is_of_bytes (fault.Read (ReaderNeverEnds number)) = false
-is_of_bytes (fault.Refused number refusal) = true
+is_of_bytes _ = true
 
 -- the three records are the header, the carrier record and the trailer of the frame
 abbrev pub AreOfFrame : Frame → Record → Record → Record → Type 0
