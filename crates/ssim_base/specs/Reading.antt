@@ -202,6 +202,14 @@ NamesNext limit all left (fault.Read (ReaderNeverEnds n)) =
     × ((read ≡ fault.Read (ReaderNeverEnds n)) ⊎ IsRecordAfter read n)
 NamesNext limit all left _ = Unit {0}
 
+-- What the fault of a reading to the end says: of the bytes, of the reader's failures, of the
+-- record that it names, and of the number of bytes that came.
+pub record RefusesReading (limit : ℕ) (before after : Reader) (fault : BaseFault) : Type 0 where
+  pub refused : RefusesWhole limit before.left fault
+  pub failure : FailsAs before.failures after.failures fault
+  pub names : NamesNext limit before.left after.left fault
+  pub never_ends : NeverEnds limit (Came before after) fault
+
 -- ---- reading back what was written
 
 -- the reader failed, which the bytes do not determine

@@ -9,7 +9,7 @@ ghost use Rattle.ssim_base.specs.BaseSeen.{AreFlights, WasRead};
 ghost use Rattle.ssim_base.specs.Closed.{IsClosed};
 ghost use Rattle.ssim_base.specs.ReadBack.{AreInOrder, CanExport, HasFrame};
 ghost use Rattle.ssim_base.specs.Reading.{Came, FailsAfter, FailsAs, IsReadOf, IsWholeOf};
-ghost use Rattle.ssim_base.specs.Reading.{NamesNext, NeverEnds, RefusesWhole};
+ghost use Rattle.ssim_base.specs.Reading.{NeverEnds, RefusesReading};
 ghost use Rattle.ssim_base.specs.internal.Reading.{ReturnsAs};
 ghost use Rattle.ssim_base.specs.declared.note.Note.{Note};
 ghost use Rattle.ssim_base.specs.SavedBase.{IsBaseRecords};
@@ -65,15 +65,10 @@ impl DataSet {
     pub fn read<R: Source>(alloc: Global, reader: &mut R, limit: u64) -> Result<DataSet, BaseFault>
         ensures read { IfOk result (λ read. (notes : List Note)
             × IsWholeOf limit (R.state reader.old).left (Ok (read, notes))) }
-        ensures refused { IfErr result (RefusesWhole limit (R.state reader.old).left) }
+        ensures err { IfErr result
+            (RefusesReading limit (R.state reader.old) (R.state reader.new)) }
         ensures no_failure { IfOk result (λ _. (R.state reader.new).failures
             ≡ (R.state reader.old).failures) }
-        ensures failure { IfErr result
-            (λ e. FailsAs (R.state reader.old).failures (R.state reader.new).failures e) }
-        ensures names { IfErr result (λ e.
-            NamesNext limit (R.state reader.old).left (R.state reader.new).left e) }
-        ensures never_ends { IfErr result
-            (λ e. NeverEnds limit (Came (R.state reader.old) (R.state reader.new)) e) }
     {
         let mut records = Vec::new(alloc);
         let (records_read, number) = read_whole(alloc, &mut records, reader, limit)?;
@@ -119,8 +114,10 @@ impl DataSet {
         ensures failure { (n : ℕ) → IfErr result (λ e. FailsAs n n e) }
         ensures fails_after { (all left : Option (List ℕ))
             → IfErr result (λ e. FailsAfter all left e) }
-        ensures names { (limit : ℕ) (all left : Option (List ℕ))
-            → IfErr result (NamesNext limit all left) }
+        ensures err { (limit : ℕ) (before after : Reader)
+            → HasRead limit before.left (IsListOf records.items) records_read number
+            → after.failures ≡ before.failures
+            → IfErr result (RefusesReading limit before after) }
         ensures never_ends { (limit : ℕ) (old new : Reader)
             → IfErr result (λ e. NeverEnds limit (Came old new) e) }
     {

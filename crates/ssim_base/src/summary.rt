@@ -2,7 +2,7 @@
 
 ghost use Rattle.std.specs.Prelude.{◌≡◌, ℕ, List, Option, IfOk, IfErr};
 ghost use Rattle.ssim_records.specs.Device.{Reader};
-ghost use Rattle.ssim_base.specs.Reading.{Came, FailsAs, NamesNext, NeverEnds, RefusesWhole};
+ghost use Rattle.ssim_base.specs.Reading.{RefusesReading};
 ghost use Rattle.ssim_base.specs.Summary.{IsSummary};
 
 use crate::data_set::reader::{DataSetReader, read_whole};
@@ -30,15 +30,10 @@ impl Summary {
     /// bytes and one more are fetched. The refusals are those of `DataSet::read`.
     pub fn read<R: Source>(alloc: Global, reader: &mut R, limit: u64) -> Result<Summary, BaseFault>
         ensures sums { IfOk result (IsSummary limit (R.state reader.old).left) }
-        ensures refused { IfErr result (RefusesWhole limit (R.state reader.old).left) }
+        ensures err { IfErr result
+            (RefusesReading limit (R.state reader.old) (R.state reader.new)) }
         ensures no_failure { IfOk result (λ _. (R.state reader.new).failures
             ≡ (R.state reader.old).failures) }
-        ensures failure { IfErr result
-            (λ e. FailsAs (R.state reader.old).failures (R.state reader.new).failures e) }
-        ensures names { IfErr result (λ e.
-            NamesNext limit (R.state reader.old).left (R.state reader.new).left e) }
-        ensures never_ends { IfErr result
-            (λ e. NeverEnds limit (Came (R.state reader.old) (R.state reader.new)) e) }
     {
         let mut records = 0;
         let (records_read, number) = read_whole(alloc, &mut records, reader, limit)?;
@@ -55,14 +50,10 @@ impl Summary {
         ensures sums { (limit : ℕ) (known : Option (List ℕ))
             → HasRead limit known (IsCountOf records) records_read number
             → IfOk result (IsSummary limit known) }
-        ensures refused { (limit : ℕ) (known : Option (List ℕ))
-            → HasRead limit known (IsCountOf records) records_read number
-            → IfErr result (RefusesWhole limit known) }
-        ensures failure { (n : ℕ) → IfErr result (λ e. FailsAs n n e) }
-        ensures names { (limit : ℕ) (all left : Option (List ℕ))
-            → IfErr result (NamesNext limit all left) }
-        ensures never_ends { (limit : ℕ) (old new : Reader)
-            → IfErr result (λ e. NeverEnds limit (Came old new) e) }
+        ensures err { (limit : ℕ) (before after : Reader)
+            → HasRead limit before.left (IsCountOf records) records_read number
+            → after.failures ≡ before.failures
+            → IfErr result (RefusesReading limit before after) }
     {
         let DataSetReader { kept, notes, .. } = records_read;
         if let Some(refusal) = kept.missing() {

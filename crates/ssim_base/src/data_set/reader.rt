@@ -5,8 +5,8 @@ ghost use Rattle.ssim_records.specs.Blocks.{Fetches};
 ghost use Rattle.ssim_records.specs.Record.{IsRecord, serial_of};
 ghost use Rattle.ssim_records.specs.declared.record.Record.{Record};
 ghost use Rattle.ssim_base.specs.internal.DataSetReader.{HasRead, unread};
-ghost use Rattle.ssim_base.specs.Reading.{Came, FailsAfter, FailsAs, IsRecordAfter, NamesNext};
-ghost use Rattle.ssim_base.specs.Reading.{NeverEnds, RefusesWhole};
+ghost use Rattle.ssim_base.specs.Reading.{Came, FailsAfter, FailsAs, IsRecordAfter, NeverEnds};
+ghost use Rattle.ssim_base.specs.Reading.{RefusesReading};
 ghost use Rattle.ssim_base.specs.internal.Reading.{Refuses, is_of_bytes};
 
 use crate::data_set::acceptance::Acceptance;
@@ -156,15 +156,9 @@ pub(crate) fn read_whole<R: Source, L: RecordSink>(
     requires { L.has records.old [] }
     ensures ok { IfOk result (λ read.
         HasRead limit (R.state reader.old).left (L.has records.new) read.0 read.1) }
-    ensures err { IfErr result (RefusesWhole limit (R.state reader.old).left) }
+    ensures err { IfErr result (RefusesReading limit (R.state reader.old) (R.state reader.new)) }
     ensures no_failure { IfOk result (λ _. (R.state reader.new).failures
         ≡ (R.state reader.old).failures) }
-    ensures failure { IfErr result
-        (λ e. FailsAs (R.state reader.old).failures (R.state reader.new).failures e) }
-    ensures names { IfErr result (λ e.
-        NamesNext limit (R.state reader.old).left (R.state reader.new).left e) }
-    ensures never_ends { IfErr result
-        (λ e. NeverEnds limit (Came (R.state reader.old) (R.state reader.new)) e) }
 {
     let mut blocks = Records::new(limit);
     match read_records(alloc, records, &mut blocks, reader) {

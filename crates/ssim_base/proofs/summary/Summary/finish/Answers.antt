@@ -5,12 +5,20 @@ use Rattle.ssim_base.specs.declared.fault.BaseFault.TheVariants.{Refused}
 use Rattle.ssim_base.proofs.ReadingLemmas.{missing-outcome, of-all, whole-outcome, whole-within}
 use Rattle.ssim_base.proofs.summary.Summary.finish.Goals as goal
 
-pub returns-in-Some-clause-refused : goal.returns-in-Some-clause-refused
-returns-in-Some-clause-refused c = λ limit told h. (
-  of-all limit told h.done c.args.number (Err (Refused c.args.number c.in-Some.refusal)) h.given
-      (missing-outcome c.args.records_read h.earlier h.done c.args.number c.in-Some.refusal h.so_far (sym (c.missing.ensures h.earlier h.so_far.is_kept) ∙ c.in-Some.is)) h.so_far.records,
-  whole-within limit told h.done c.args.number h.given,
-)
+pub returns-in-Some-clause-err : goal.returns-in-Some-clause-err
+returns-in-Some-clause-err c = λ limit before after h same.
+    let fault = Refused c.args.number c.in-Some.refusal in
+    let refusal = sym (c.missing.ensures h.earlier h.so_far.is_kept) ∙ c.in-Some.is in
+    let is = missing-outcome c.args.records_read h.earlier h.done c.args.number c.in-Some.refusal h.so_far refusal in
+    record {
+      refused = (
+        of-all limit before.left h.done c.args.number (Err fault) h.given is h.so_far.records,
+        whole-within limit before.left h.done c.args.number h.given,
+      );
+      failure = same;
+      names = tt;
+      never_ends = tt;
+    }
 
 pub returns-clause-sums : goal.returns-clause-sums
 returns-clause-sums c = λ limit told h.
