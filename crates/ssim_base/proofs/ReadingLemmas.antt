@@ -328,6 +328,24 @@ never-refused limit CameFrom n earlier r fault.Memory is = tt
 never-refused limit CameFrom n earlier r (Read f) is = absurd is
 never-refused limit CameFrom n earlier r (Refused m refusal) is = tt
 
+-- ---- how often the reader failed
+
+-- a record that is refused counts no failure
+pub refused-fails : (old new n : ℕ) (earlier : List Record) (r : Record) (e : BaseFault)
+    → IsRefused n earlier r e → new ≡ old → FailsAs old new e
+refused-fails old new n earlier r fault.Memory is same = same
+refused-fails old new n earlier r (Read f) is same = absurd is
+refused-fails old new n earlier r (Refused m refusal) is same = same
+
+-- a fault of the next record counts a failure if it is 13
+pub fault-fails : (old mid new : ℕ) (f : RecordFault) → mid ≡ old
+    → reading.FailsAs mid new (Err f) → FailsAs old new (Read f)
+fault-fails old mid new (Short n) same h = h ∙ same
+fault-fails old mid new (BadType n) same h = h ∙ same
+fault-fails old mid new (BadColumn n column) same h = h ∙ same
+fault-fails old mid new (ReadFault n) same h = h ∙ ap (λ k. (k + 1) % 2 ^ 64) same
+fault-fails old mid new (ReaderNeverEnds n) same h = h ∙ same
+
 -- ---- which record a reading fails at
 
 -- a reading that failed had as many complete records as were counted

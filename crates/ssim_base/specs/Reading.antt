@@ -153,6 +153,13 @@ FailsAfter all left (fault.Read (ReadFault number)) = IfSome all (λ bytes.
     × (number ≡ length blocks + 1))
 FailsAfter all left _ = Unit {0}
 
+-- What the fault of a reading record by record says: of the reader's failures, of the records that
+-- came before a 13, and of the number of bytes that came before a 14.
+pub record RefusesByRecord (limit : ℕ) (before after : Reader) (fault : BaseFault) : Type 0 where
+  pub failure : FailsAs before.failures after.failures fault
+  pub fails_after : FailsAfter before.left after.left fault
+  pub never_ends : NeverEnds limit (Came before after) fault
+
 -- ---- reading to the end
 
 -- the outcome is what bytes within the limit are read as

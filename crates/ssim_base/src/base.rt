@@ -6,7 +6,7 @@ ghost use Rattle.ssim_base.specs.Base.{airline_of};
 ghost use Rattle.ssim_base.specs.BaseSeen.{AreFlights, base_with};
 ghost use Rattle.ssim_base.specs.Closed.{IsClosed};
 ghost use Rattle.ssim_base.specs.ReadBack.{AreInOrder, HasFrame};
-ghost use Rattle.ssim_base.specs.Reading.{Returns, Came, FailsAfter, FailsAs, IsReadOf, NeverEnds};
+ghost use Rattle.ssim_base.specs.Reading.{IsReadOf, RefusesByRecord, Returns};
 ghost use Rattle.ssim_base.specs.SavedBase.{IsBaseRecords};
 ghost use Rattle.ssim_base.specs.Timetable.{days_of};
 
@@ -67,12 +67,8 @@ impl Base {
         ensures rows { IfOk result (λ read. read.base.rows ≡ stations) }
         ensures no_failure { IfOk result (λ _. (R.state reader.new).failures
             ≡ (R.state reader.old).failures) }
-        ensures failure { IfErr result
-            (λ e. FailsAs (R.state reader.old).failures (R.state reader.new).failures e) }
-        ensures fails_after { IfErr result
-            (λ e. FailsAfter (R.state reader.old).left (R.state reader.new).left e) }
-        ensures never_ends { IfErr result
-            (λ e. NeverEnds limit (Came (R.state reader.old) (R.state reader.new)) e) }
+        ensures err { IfErr result
+            (RefusesByRecord limit (R.state reader.old) (R.state reader.new)) }
     {
         let (data_set, notes) = DataSet::read_noted(alloc, reader, limit)?;
         let base = Base::of(data_set, stations);

@@ -8,8 +8,7 @@ ghost use Rattle.ssim_base.specs.Base.{airline_of};
 ghost use Rattle.ssim_base.specs.BaseSeen.{AreFlights, WasRead};
 ghost use Rattle.ssim_base.specs.Closed.{IsClosed};
 ghost use Rattle.ssim_base.specs.ReadBack.{AreInOrder, CanExport, HasFrame};
-ghost use Rattle.ssim_base.specs.Reading.{Came, FailsAfter, FailsAs, IsReadOf, IsWholeOf};
-ghost use Rattle.ssim_base.specs.Reading.{NeverEnds, RefusesReading};
+ghost use Rattle.ssim_base.specs.Reading.{IsReadOf, IsWholeOf, RefusesByRecord, RefusesReading};
 ghost use Rattle.ssim_base.specs.internal.Reading.{ReturnsAs};
 ghost use Rattle.ssim_base.specs.declared.note.Note.{Note};
 ghost use Rattle.ssim_base.specs.SavedBase.{IsBaseRecords};
@@ -86,12 +85,8 @@ impl DataSet {
             (IsReadOf limit (R.state reader.old).left) }
         ensures no_failure { IfOk result (λ _. (R.state reader.new).failures
             ≡ (R.state reader.old).failures) }
-        ensures failure { IfErr result
-            (λ e. FailsAs (R.state reader.old).failures (R.state reader.new).failures e) }
-        ensures fails_after { IfErr result
-            (λ e. FailsAfter (R.state reader.old).left (R.state reader.new).left e) }
-        ensures never_ends { IfErr result
-            (λ e. NeverEnds limit (Came (R.state reader.old) (R.state reader.new)) e) }
+        ensures err { IfErr result
+            (RefusesByRecord limit (R.state reader.old) (R.state reader.new)) }
     {
         let mut records = Vec::new(alloc);
         let mut blocks = Records::new(limit);
@@ -111,15 +106,13 @@ impl DataSet {
         ensures read { (limit : ℕ) (known : Option (List ℕ))
             → HasRead limit known (IsListOf records.items) records_read number
             → ReturnsAs (λ read. (read.0, read.1.items)) result (IsReadOf limit known) }
-        ensures failure { (n : ℕ) → IfErr result (λ e. FailsAs n n e) }
-        ensures fails_after { (all left : Option (List ℕ))
-            → IfErr result (λ e. FailsAfter all left e) }
+        ensures by_record { (limit : ℕ) (before after : Reader)
+            → after.failures ≡ before.failures
+            → IfErr result (RefusesByRecord limit before after) }
         ensures err { (limit : ℕ) (before after : Reader)
             → HasRead limit before.left (IsListOf records.items) records_read number
             → after.failures ≡ before.failures
             → IfErr result (RefusesReading limit before after) }
-        ensures never_ends { (limit : ℕ) (old new : Reader)
-            → IfErr result (λ e. NeverEnds limit (Came old new) e) }
     {
         let DataSetReader { kept, notes, .. } = records_read;
         if let Some(refusal) = kept.missing() {

@@ -5,8 +5,7 @@ ghost use Rattle.ssim_records.specs.Blocks.{Fetches};
 ghost use Rattle.ssim_records.specs.Record.{IsRecord, serial_of};
 ghost use Rattle.ssim_records.specs.declared.record.Record.{Record};
 ghost use Rattle.ssim_base.specs.internal.DataSetReader.{HasRead, unread};
-ghost use Rattle.ssim_base.specs.Reading.{Came, FailsAfter, FailsAs, IsRecordAfter, NeverEnds};
-ghost use Rattle.ssim_base.specs.Reading.{RefusesReading};
+ghost use Rattle.ssim_base.specs.Reading.{Came, IsRecordAfter, RefusesByRecord, RefusesReading};
 ghost use Rattle.ssim_base.specs.internal.Reading.{Refuses, is_of_bytes};
 
 use crate::data_set::acceptance::Acceptance;
@@ -113,12 +112,8 @@ pub(crate) fn read_records<R: Source, L: RecordSink>(
     ensures err { IfErr result (λ e. Refuses blocks.old.limit (R.state reader.old).left e) }
     ensures no_failure { IfOk result (λ _. (R.state reader.new).failures
         ≡ (R.state reader.old).failures) }
-    ensures failure { IfErr result
-        (λ e. FailsAs (R.state reader.old).failures (R.state reader.new).failures e) }
-    ensures fails_after { IfErr result
-        (λ e. FailsAfter (R.state reader.old).left (R.state reader.new).left e) }
-    ensures never_ends { IfErr result
-        (λ e. NeverEnds blocks.old.limit (Came (R.state reader.old) (R.state reader.new)) e) }
+    ensures by_record { IfErr result
+        (RefusesByRecord blocks.old.limit (R.state reader.old) (R.state reader.new)) }
     ensures next { IfErr result (λ e.
         is_of_bytes e ≡ true → IsRecordAfter e (blocks.new.number + 1)) }
     ensures limit { IfErr result (λ _. blocks.new.limit ≡ blocks.old.limit) }

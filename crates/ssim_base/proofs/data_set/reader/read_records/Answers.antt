@@ -9,7 +9,7 @@ use Rattle.ssim_base.specs.Base.{Done, kept}
 use Rattle.ssim_base.specs.Reading.{Came}
 use Rattle.ssim_base.specs.internal.Reading.{AreGivenOf}
 use Rattle.ssim_base.specs.declared.fault.BaseFault.TheVariants.{Memory}
-use Rattle.ssim_base.proofs.ReadingLemmas.{Numbered, Told, after-fault, after-refused, came-in, ended-beyond, fails-after, never-refused, never-fails, step-refused, while-open, nothing, one-more, told-end, told-fault, told-first, told-step}
+use Rattle.ssim_base.proofs.ReadingLemmas.{Numbered, Told, after-fault, after-refused, came-in, ended-beyond, fails-after, fault-fails, never-refused, never-fails, refused-fails, step-refused, while-open, nothing, one-more, told-end, told-fault, told-first, told-step}
 use Rattle.ssim_base.proofs.data_set.reader.read_records.Goals as goal
 
 pub loop-number-init : goal.loop-number-init
@@ -103,46 +103,6 @@ returns-in-Err-clause-err g c =
     told-fault c.args.blocks.now.limit (g.R.Source.state c.args.reader.now).left (g.R.Source.state c.loop-number.reader).left (g.R.Source.state c.next_into.new.reader).left old new c.loop-number.records_read i.earlier i.done
     c.in-Err.fault i.limit_is i.so_far i.told gives number
 
-pub returns-in_err-take-in-Some-clause-never_ends : goal.returns-in_err-take-in-Some-clause-never_ends
-returns-in_err-take-in-Some-clause-never_ends g c =
-    let i = c.loop-number.invariant in
-    let x : Numbered = (c.in-Ok.number, c.in-Some.record) in
-    let refusal : c.from_residual.result ≡ Err c.in_err-take-in-Some.field-0.0 = search rules in
-    rw refusal (never-refused c.args.blocks.now.limit
-    (Came (g.R.Source.state c.args.reader.now) (g.R.Source.state c.next_into.new.reader))
-    x.0 i.earlier x.1 c.in_err-take-in-Some.field-0.0 (c.in_err-take-in-Some.ensures.err i.earlier i.so_far.is_kept))
-
-pub returns-in_err-take-in-Some-clause-fails_after : goal.returns-in_err-take-in-Some-clause-fails_after
-returns-in_err-take-in-Some-clause-fails_after g c =
-    let i = c.loop-number.invariant in
-    let x : Numbered = (c.in-Ok.number, c.in-Some.record) in
-    let refusal : c.from_residual.result ≡ Err c.in_err-take-in-Some.field-0.0 = search rules in
-    rw refusal (never-fails _ _ x.0 i.earlier x.1 c.in_err-take-in-Some.field-0.0 (c.in_err-take-in-Some.ensures.err i.earlier i.so_far.is_kept))
-
-pub returns-in-Err-clause-fails_after : goal.returns-in-Err-clause-fails_after
-returns-in-Err-clause-fails_after g c =
-    let i = c.loop-number.invariant in
-    let old = c.loop-number.blocks in
-    let new = c.next_into.new.self in
-    let answer : given c.next_into.new.into c.next_into.result ≡ Err c.in-Err.fault =
-    rw c.in-Err.is refl in
-    let gives =
-    subst (λ (a : Answer). GivesNext old (g.R.Source.state c.loop-number.reader).left new
-    (g.R.Source.state c.next_into.new.reader).left a) answer
-    (while-open old.ended i.open' c.next_into.ensures.record) in
-    let more = while-open old.ended i.open' c.next_into.ensures.fetched in
-    let fetched =
-    fetches_on 0 old.number new.number old.number new.number [] old.held new.held _ _ _ i.fetched
-    more (omega arith) in
-    let number = subst (λ (a : Answer). HasNumber new.number a) answer
-    (while-open old.ended i.open' c.next_into.ensures.number) in
-    let few = subst (λ (a : Answer). HoldsFew new.held a) answer
-    (while-open old.ended i.open' c.next_into.ensures.few_left) in
-    fails-after c.args.blocks.now.limit (g.R.Source.state c.args.reader.now).left
-    (g.R.Source.state c.loop-number.reader).left (g.R.Source.state c.next_into.new.reader).left
-    old new c.loop-number.records_read i.earlier i.done c.in-Err.fault i.so_far i.told gives more
-    fetched number few
-
 pub returns-in_err-take-in-Some-clause-fetched : goal.returns-in_err-take-in-Some-clause-fetched
 returns-in_err-take-in-Some-clause-fetched g c =
     let i = c.loop-number.invariant in
@@ -169,17 +129,89 @@ returns-in-Err-clause-fetched g c =
     fetches_on 0 old.number new.number old.number new.number [] old.held new.held _ _ _ i.fetched
     (while-open old.ended i.open' c.next_into.ensures.fetched) (omega arith)
 
-pub returns-in-Err-clause-never_ends : goal.returns-in-Err-clause-never_ends
-returns-in-Err-clause-never_ends g c =
+pub returns-in_err-take-in-Some-clause-by_record : goal.returns-in_err-take-in-Some-clause-by_record
+returns-in_err-take-in-Some-clause-by_record g c =
+    let i = c.loop-number.invariant in
+    let old = c.loop-number.blocks in
+    let before = g.R.Source.state c.args.reader.now in
+    let mid = g.R.Source.state c.loop-number.reader in
+    let after = g.R.Source.state c.next_into.new.reader in
+    let x : Numbered = (c.in-Ok.number, c.in-Some.record) in
+    let fault = c.in_err-take-in-Some.field-0.0 in
+    let answer : given c.next_into.new.into c.next_into.result ≡ Ok (Some x) =
+    rw (c.in-Ok.is, c.in-Some.is) refl in
+    let failures =
+    subst (λ (a : Answer). FailsAs mid.failures after.failures a) answer
+    (while-open old.ended i.open' c.next_into.ensures.fault) in
+    let refused = c.in_err-take-in-Some.ensures.err i.earlier i.so_far.is_kept in
+    let refusal : c.from_residual.result ≡ Err fault = search rules in
+    rw refusal (record {
+      failure =
+          refused-fails before.failures after.failures x.0 i.earlier x.1 fault refused
+          (failures ∙ i.no_failure);
+      fails_after = never-fails before.left after.left x.0 i.earlier x.1 fault refused;
+      never_ends =
+          never-refused c.args.blocks.now.limit (Came before after) x.0 i.earlier x.1 fault refused;
+    })
+
+pub returns-in_err-push_record-in-Some-clause-by_record : goal.returns-in_err-push_record-in-Some-clause-by_record
+returns-in_err-push_record-in-Some-clause-by_record g c =
+    let i = c.loop-number.invariant in
+    let old = c.loop-number.blocks in
+    let mid = g.R.Source.state c.loop-number.reader in
+    let after = g.R.Source.state c.next_into.new.reader in
+    let x : Numbered = (c.in-Ok.number, c.in-Some.record) in
+    let answer : given c.next_into.new.into c.next_into.result ≡ Ok (Some x) =
+    rw (c.in-Ok.is, c.in-Some.is) refl in
+    let failures =
+    subst (λ (a : Answer). FailsAs mid.failures after.failures a) answer
+    (while-open old.ended i.open' c.next_into.ensures.fault) in
+    let refusal : c.from_residual-in_err-push_record-in-Some.result ≡ Err Memory = search rules in
+    rw refusal (record { failure = failures ∙ i.no_failure; fails_after = tt; never_ends = tt })
+
+pub returns-in-Err-clause-by_record : goal.returns-in-Err-clause-by_record
+returns-in-Err-clause-by_record g c =
     let i = c.loop-number.invariant in
     let old = c.loop-number.blocks in
     let new = c.next_into.new.self in
-    let answer : given c.next_into.new.into c.next_into.result ≡ Err c.in-Err.fault = rw c.in-Err.is refl in
-    let gives = subst (λ (a : Answer). GivesNext old (g.R.Source.state c.loop-number.reader).left new (g.R.Source.state c.next_into.new.reader).left a) answer (while-open old.ended i.open' c.next_into.ensures.record) in
-    let over = subst (λ (a : Answer). NeverEnds new a) answer (while-open old.ended i.open' c.next_into.ensures.never_ends) in
-    let counts = counts_twice _ _ _ _ _ _ _ _ _ i.counts (while-open old.ended i.open' c.next_into.ensures.count) in
-    ended-beyond c.args.blocks.now.limit (g.R.Source.state c.args.reader.now).left (g.R.Source.state c.loop-number.reader).left (g.R.Source.state c.next_into.new.reader).left (g.R.Source.state c.args.reader.now).came (g.R.Source.state c.next_into.new.reader).came
-    old new i.done c.in-Err.fault (c.next_into.ensures.limit ∙ i.limit_is) i.told gives counts over
+    let limit = c.args.blocks.now.limit in
+    let before = g.R.Source.state c.args.reader.now in
+    let mid = g.R.Source.state c.loop-number.reader in
+    let after = g.R.Source.state c.next_into.new.reader in
+    let fault = c.in-Err.fault in
+    let answer : given c.next_into.new.into c.next_into.result ≡ Err fault = rw c.in-Err.is refl in
+    let gives =
+    subst (λ (a : Answer). GivesNext old mid.left new after.left a) answer
+    (while-open old.ended i.open' c.next_into.ensures.record) in
+    let failures =
+    subst (λ (a : Answer). FailsAs mid.failures after.failures a) answer
+    (while-open old.ended i.open' c.next_into.ensures.fault) in
+    let number =
+    subst (λ (a : Answer). HasNumber new.number a) answer
+    (while-open old.ended i.open' c.next_into.ensures.number) in
+    let few =
+    subst (λ (a : Answer). HoldsFew new.held a) answer
+    (while-open old.ended i.open' c.next_into.ensures.few_left) in
+    let over =
+    subst (λ (a : Answer). NeverEnds new a) answer
+    (while-open old.ended i.open' c.next_into.ensures.never_ends) in
+    let more = while-open old.ended i.open' c.next_into.ensures.fetched in
+    let fetched =
+    fetches_on 0 old.number new.number old.number new.number [] old.held new.held _ _ _ i.fetched
+    more (omega arith) in
+    let counts =
+    counts_twice _ _ _ _ _ _ _ _ _ i.counts
+    (while-open old.ended i.open' c.next_into.ensures.count) in
+    record {
+      failure =
+          fault-fails before.failures mid.failures after.failures fault i.no_failure failures;
+      fails_after =
+          fails-after limit before.left mid.left after.left old new c.loop-number.records_read
+          i.earlier i.done fault i.so_far i.told gives more fetched number few;
+      never_ends =
+          ended-beyond limit before.left mid.left after.left before.came after.came old new i.done
+          fault (c.next_into.ensures.limit ∙ i.limit_is) i.told gives counts over;
+    }
 
 pub returns-in_err-take-in-Some-clause-came : goal.returns-in_err-take-in-Some-clause-came
 returns-in_err-take-in-Some-clause-came g c =

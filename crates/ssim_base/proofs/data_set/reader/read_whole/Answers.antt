@@ -16,14 +16,14 @@ returns-then-not-is_of_bytes-clause-err g c =
     let is = sym c.is_of_bytes.ensures ∙ c.if-not-is_of_bytes.true in
     record {
       refused = other-refused c.args.limit before.left fault is;
-      failure = c.in-Err.ensures.failure;
+      failure = c.in-Err.ensures.by_record.failure;
       names =
           names-first c.args.limit before.left after.left fault
           (subst (λ (n : ℕ). Refuses n before.left fault) limit c.in-Err.ensures.err)
-          c.in-Err.ensures.fails_after;
+          c.in-Err.ensures.by_record.fails_after;
       never_ends =
           subst (λ (n : ℕ). NeverEnds n (Came before after) fault) limit
-          c.in-Err.ensures.never_ends;
+          c.in-Err.ensures.by_record.never_ends;
     }
 
 pub returns-in-Ok-skip_rest-clause-err : goal.returns-in-Ok-skip_rest-clause-err
@@ -44,13 +44,13 @@ returns-in-Ok-skip_rest-clause-err g c =
           c.in-Err.ensures.came c.skip_rest.ensures.total end'.0
           (subst (λ (n : ℕ). c.skip_rest.new.self.came ≤ n) same end'.1);
       failure =
-          bytes-fail before.failures mid.failures after.failures fault is c.in-Err.ensures.failure
+          bytes-fail before.failures mid.failures after.failures fault is c.in-Err.ensures.by_record.failure
           c.in-Ok-skip_rest.ensures.fault;
       names = names-own c.args.limit before.left after.left fault is;
       never_ends =
           bytes-end c.args.limit (Came before mid) (Came before after) fault is
           (subst (λ (n : ℕ). NeverEnds n (Came before mid) fault) limit
-          c.in-Err.ensures.never_ends);
+          c.in-Err.ensures.by_record.never_ends);
     }
 
 pub returns-in-Err-skip_rest-clause-err : goal.returns-in-Err-skip_rest-clause-err
@@ -68,7 +68,7 @@ returns-in-Err-skip_rest-clause-err g c =
       refused = rest-other c.args.limit before.left c.skip_rest.new.self mid after rest fails;
       failure =
           rest-fails c.skip_rest.new.self before.failures mid after rest
-          (bytes-count before.failures mid.failures fault is c.in-Err.ensures.failure) fails;
+          (bytes-count before.failures mid.failures fault is c.in-Err.ensures.by_record.failure) fails;
       names =
           names-rest c.args.limit before.left fault c.read_records.new.blocks.number
           c.read_records.new.blocks.held mid after c.skip_rest.new.self rest is
