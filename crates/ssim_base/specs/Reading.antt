@@ -189,8 +189,8 @@ abbrev pub IsAfterInvalid : ℕ → Option (List ℕ) → ℕ → Type 0
 IsAfterInvalid limit known number =
     (invalid : BaseFault) × IsReadOf limit known (Err invalid) × IsRecordAfter invalid number
 
--- The record after the first invalid one of these blocks has this number. If each of them is
--- allowed, it is the record after all of them.
+-- The first invalid record of the bytes is one of these blocks, and the record after it has this
+-- number; or each of these blocks is allowed, and the record after them has this number.
 abbrev pub IsNext : ℕ → List ℕ → List (List ℕ) → ℕ → Type 0
 IsNext limit bytes blocks number =
     (IsAfterInvalid limit (Some bytes) number × (number ≤ length blocks + 1))
