@@ -1,6 +1,6 @@
 -- The names of faults, and what they name.
 use Rattle.std.specs.Prelude.{ℕ, List, codes}
-use Rattle.ssim_records.specs.Record.{fault_name}
+use Rattle.ssim_records.specs.Record.{fault_name, fault_record}
 use Rattle.ssim_records.specs.declared.fault.RecordFault.{RecordFault}
 use Rattle.ssim_records.specs.declared.fault.RecordFault.TheVariants as record_fault
 use Rattle.ssim_text.specs.declared.fault.TextFault.{TextFault}
@@ -53,11 +53,8 @@ resolve_fault_name (resolve.Period n) = codes "Period"
 
 -- what a fault of a record names: the record, or a column of it
 abbrev pub record_fault_place : RecordFault → Place
-record_fault_place (record_fault.Short n) = Record n
-record_fault_place (record_fault.BadType n) = Record n
 record_fault_place (record_fault.BadColumn n column) = Column n column
-record_fault_place (record_fault.ReadFault n) = Record n
-record_fault_place (record_fault.ReaderNeverEnds n) = Record n
+record_fault_place fault = Record (fault_record fault)
 
 -- what a fault of a text names: the line
 abbrev pub text_fault_place : TextFault → Place
