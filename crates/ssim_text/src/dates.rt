@@ -39,26 +39,14 @@ pub(crate) fn month_day(text: &[u8]) -> Option<DayMonth>
     ensures some { IfSome result (λ date. month_day_in text.now ≡ Some date) }
     ensures none { IfNone result (month_day_in text.now ≡ None) }
 {
-    match text.as_array() {
-        Some(text) => match DayMonth::parse(text) {
-            Ok(date) => Some(date),
-            Err(_) => None,
-        },
-        None => None,
-    }
+    DayMonth::parse(text.as_array()?).ok()
 }
 
 pub(crate) fn day(text: &[u8]) -> Option<Day>
     ensures some { IfSome result (λ day. day_in text.now ≡ Some day) }
     ensures none { IfNone result (day_in text.now ≡ None) }
 {
-    match text.as_array() {
-        Some(text) => match Day::parse(text) {
-            Ok(day) => Some(day),
-            Err(_) => None,
-        },
-        None => None,
-    }
+    Day::parse(text.as_array()?).ok()
 }
 
 pub(crate) fn date(text: &[u8]) -> Option<GivenDate>
@@ -97,10 +85,7 @@ fn compact_days(text: &[u8]) -> Option<DayMask>
     if !are_digits(text) {
         return None;
     }
-    match DayMask::parse(text) {
-        Ok(days) => Some(days),
-        Err(_) => None,
-    }
+    DayMask::parse(text).ok()
 }
 
 #[tactic(auto, unfolding(crate::specs::Lines::period_of))]

@@ -353,22 +353,7 @@ impl State {
     {
         match mode_of(line) {
             Some(mode) => Ok(State::AtReference(originator, kind, mode)),
-            None => {
-                let read = GivenReference::parse(alloc, line)?;
-                match read {
-                    Some(reference) => {
-                        let draft = Draft::begin(
-                            alloc,
-                            originator,
-                            kind,
-                            TimeMode::Utc,
-                            reference,
-                        )?;
-                        Ok(State::AtAction(draft))
-                    }
-                    None => Err(Stop::Refused(Fault::BadReference)),
-                }
-            }
+            None => State::after_mode(alloc, originator, kind, TimeMode::Utc, line),
         }
     }
 

@@ -72,26 +72,14 @@ pub fn read_station(text: &[u8]) -> Option<Station>
     ensures some { IfSome result (λ s. station_in text.now ≡ Some s) }
     ensures none { IfNone result (station_in text.now ≡ None) }
 {
-    match text.as_array() {
-        Some(letters) => match Station::parse(letters) {
-            Ok(station) => Some(station),
-            Err(_) => None,
-        },
-        None => None,
-    }
+    Station::parse(text.as_array()?).ok()
 }
 
 fn read_clock(text: &[u8]) -> Option<Clock>
     ensures some { IfSome result (λ t. clock_in text.now ≡ Some t) }
     ensures none { IfNone result (clock_in text.now ≡ None) }
 {
-    match text.as_array() {
-        Some(digits) => match Clock::parse(digits) {
-            Ok(time) => Some(time),
-            Err(_) => None,
-        },
-        None => None,
-    }
+    Clock::parse(text.as_array()?).ok()
 }
 
 fn variation(text: &[u8]) -> Option<u8>
