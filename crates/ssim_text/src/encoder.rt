@@ -84,8 +84,16 @@ impl GivenReference {
         ensures { OnOk result
             (out.new.items ≡ out.old.items ++ (reference_text self.now ++ 10 ∷ [])) }
     {
+        self.push_with_group(out, self.group)
+    }
+
+    /// Adds its line, but with this group serial.
+    pub fn push_with_group(&self, out: &mut Vec<u8>, group: u32) -> Result<(), AllocError>
+        ensures { OnOk result (out.new.items ≡ out.old.items
+            ++ (reference_text (record self.now { group = group }) ++ 10 ∷ [])) }
+    {
         out.extend_from_slice(&self.date.write())?;
-        out.extend_from_slice(&five_digits(self.group))?;
+        out.extend_from_slice(&five_digits(group))?;
         out.push(self.code.letter())?;
         out.extend_from_slice(&three_digits(self.serial))?;
         self.push_creator(out)?;
