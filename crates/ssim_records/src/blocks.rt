@@ -5,9 +5,10 @@ ghost use Rattle.std.specs.Io.KnownBytes.{IsAtEnd};
 ghost use Rattle.ssim_records.specs.declared.blocks.Stop.TheVariants.{ReaderNeverEnds};
 ghost use Rattle.ssim_records.specs.Frames.{is_fill};
 ghost use Rattle.ssim_records.specs.Blocks.{CameOn, CountsOn, Fetches, StaysLeft};
-ghost use Rattle.ssim_records.specs.internal.Blocks.{behind_front, with_front, FailsAtRest, GivesBlock, GivesOther, FailsOnce, HoldsFew, block_count};
+ghost use Rattle.ssim_records.specs.internal.Blocks.{behind_front, with_front, FailsAtRest, GivesBlock, GivesOther, FailsOnce, HoldsFew, block_count, refusal_of};
 
 use crate::device::Source;
+use crate::fault::RecordFault;
 use crate::window::{ROOM, Window};
 use std::marker::Model;
 
@@ -17,6 +18,19 @@ pub enum Stop {
     Short,
     ReadFault,
     ReaderNeverEnds,
+}
+
+impl Stop {
+    /// The refusal of the record of this number, of which no block came.
+    pub(crate) fn refusal_of(self, number: u64) -> RecordFault
+        ensures { result ≡ refusal_of self number }
+    {
+        match self {
+            Stop::Short => RecordFault::Short { record: number },
+            Stop::ReadFault => RecordFault::ReadFault { record: number },
+            Stop::ReaderNeverEnds => RecordFault::ReaderNeverEnds { record: number },
+        }
+    }
 }
 
 /// The number of bytes that must be held for a block: one more if the last came after the limit.

@@ -6,7 +6,7 @@ ghost use Rattle.ssim_records.specs.Blocks.{CameOn, CountsOn, StaysLeft};
 ghost use Rattle.ssim_records.specs.Reading.{Counts, FailsAs, FetchesNext, GivesNext, HasNumber, HoldsFew, NeverEnds, RestFails, given, last_answer, ending_of};
 ghost use Rattle.ssim_records.specs.Reading.{CountsBlock, GivesNextBlock, IsNoBlockFault, block_ending, last_block, without_block};
 
-use crate::blocks::{Stop, next_other, skip_rest};
+use crate::blocks::{next_other, skip_rest};
 use crate::device::Source;
 use crate::fault::RecordFault;
 use crate::record::{Record, RecordReader};
@@ -124,15 +124,7 @@ impl Records {
                     Err(fault) => Err(fault),
                 }
             }
-            Err(Stop::Short) => Err(RecordFault::Short {
-                record: self.number + 1,
-            }),
-            Err(Stop::ReadFault) => Err(RecordFault::ReadFault {
-                record: self.number + 1,
-            }),
-            Err(Stop::ReaderNeverEnds) => Err(RecordFault::ReaderNeverEnds {
-                record: self.number + 1,
-            }),
+            Err(stop) => Err(stop.refusal_of(self.number + 1)),
         }
     }
 
@@ -269,15 +261,7 @@ impl Records {
                 self.window.skip(200);
                 Ok(Some((self.number, block)))
             }
-            Err(Stop::Short) => Err(RecordFault::Short {
-                record: self.number + 1,
-            }),
-            Err(Stop::ReadFault) => Err(RecordFault::ReadFault {
-                record: self.number + 1,
-            }),
-            Err(Stop::ReaderNeverEnds) => Err(RecordFault::ReaderNeverEnds {
-                record: self.number + 1,
-            }),
+            Err(stop) => Err(stop.refusal_of(self.number + 1)),
         }
     }
 
@@ -354,12 +338,7 @@ impl Records {
     {
         match skip_rest(&mut self.window, &mut self.came, self.limit, reader) {
             Ok(()) => Ok(()),
-            Err(Stop::ReadFault) => Err(RecordFault::ReadFault {
-                record: self.number + 1,
-            }),
-            Err(_) => Err(RecordFault::ReaderNeverEnds {
-                record: self.number + 1,
-            }),
+            Err(stop) => Err(stop.refusal_of(self.number + 1)),
         }
     }
 }

@@ -2,8 +2,16 @@
 use Rattle.std.specs.Prelude.{ℕ, ◌≡◌, ◌+◌, ◌%◌, ◌^◌, ◌<◌, ◌≤◌, Bool, true, false, List, [], ◌∷◌, ◌++◌, length, take, drop, nat_lt, ⊤, Option, Some, None, Result, Ok, Err}
 use Rattle.ssim_records.specs.declared.blocks.Stop.{Stop}
 use Rattle.ssim_records.specs.declared.blocks.Stop.TheVariants.{Short, ReadFault, ReaderNeverEnds}
+use Rattle.ssim_records.specs.declared.fault.RecordFault.{RecordFault}
+use Rattle.ssim_records.specs.declared.fault.RecordFault.TheVariants as fault
 use Rattle.ssim_records.specs.Frames.{trim, Frames, others}
 use Rattle.ssim_records.specs.Blocks.{beyond}
+
+-- the refusal of the record of a number, of which no block came
+abbrev pub refusal_of : Stop → ℕ → RecordFault
+refusal_of Short number = fault.Short number
+refusal_of ReadFault number = fault.ReadFault number
+refusal_of ReaderNeverEnds number = fault.ReaderNeverEnds number
 
 -- the result of looking for the next block in the bytes ahead: the end, a block, or why there is
 -- none; `over` is the number of bytes after the limit

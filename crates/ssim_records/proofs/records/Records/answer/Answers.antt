@@ -2,7 +2,7 @@
 use Rattle.std.proofs.Common.{◌≡◌, Ok, true, take, drop, refl, rules}
 use Rattle.ssim_records.specs.Reading.{Reading}
 use Rattle.ssim_records.proofs.Readings.{block_fault, gives_placed, gives_refusal, refused_holds}
-use Rattle.ssim_records.proofs.records.Records.answer.Goals.{in-Ok, in-Err}
+use Rattle.ssim_records.proofs.records.Records.answer.Goals.{in-Ok, in-Err-read}
 use Rattle.ssim_records.proofs.records.Records.answer.Goals as goal
 
 pub returns-after-read-clause-record : goal.returns-after-read-clause-record
@@ -14,7 +14,7 @@ returns-after-read-clause-record g c =
     let b = rw e at c.next_other.ensures.block in
     elim c.match-read.branch [
       | in-Ok w ↦ rw (w.result-is, c.skip.ensures, ← c.self.view_is) (gives_placed old after_block _ _ (take 200 c.next_other.new.window) _ refl b (rw (← c.front.ensures) w.in-Ok.ensures.ok))
-      | in-Err w ↦ rw (w.result-is, c.skip.ensures, ← c.self.view_is) (gives_refusal old after_block _ _ (take 200 c.next_other.new.window) w.in-Err.fault b (rw (← c.front.ensures) w.in-Err.ensures.err))
+      | in-Err-read w ↦ rw (w.result-is, c.skip.ensures, ← c.self.view_is) (gives_refusal old after_block _ _ (take 200 c.next_other.new.window) w.in-Err-read.fault b (rw (← c.front.ensures) w.in-Err-read.ensures.err))
     ]
 
 pub returns-after-read-clause-fetched : goal.returns-after-read-clause-fetched
@@ -26,5 +26,5 @@ returns-after-read-clause-fetched g c =
 pub returns-after-read-clause-few_left : goal.returns-after-read-clause-few_left
 returns-after-read-clause-few_left g c = elim c.match-read.branch [
   | in-Ok w ↦ rw w.result-is tt
-  | in-Err w ↦ rw w.result-is (refused_holds c.next_other.new.number c.skip.new.self w.in-Err.fault (block_fault c.next_other.new.number c.front.result.now w.in-Err.fault w.in-Err.ensures.err))
+  | in-Err-read w ↦ rw w.result-is (refused_holds c.next_other.new.number c.skip.new.self w.in-Err-read.fault (block_fault c.next_other.new.number c.front.result.now w.in-Err-read.fault w.in-Err-read.ensures.err))
 ]
