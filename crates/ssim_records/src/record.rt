@@ -1,9 +1,10 @@
 //! A record of any type.
 
-ghost use Rattle.std.specs.Prelude.{◌≡◌, ◌≢◌, ◌<◌, ◌↔◌, ◌∷◌, ℕ, [], Ok, Some, IfOk, IfErr, OnOk, IsTrue, false, length};
+ghost use Rattle.std.specs.Prelude.{◌≡◌, ◌≢◌, ◌<◌, ◌↔◌, ◌∷◌, [], Ok, Some, IfOk, IfErr, OnOk, IsTrue, false, length};
 ghost use Rattle.ssim_columns.specs.Columns.{columns};
 ghost use Rattle.ssim_records.specs.declared.record.Record.{Record};
 ghost use Rattle.ssim_records.specs.Record.{Spells, HasSpelt, IsRecord, written, fault_of, with_serial, serial_of};
+ghost use Rattle.ssim_records.specs.internal.Record.{HasBadColumn, HasBadType};
 
 pub(crate) mod carrier;
 pub(crate) mod header;
@@ -47,10 +48,8 @@ fn put_other(bytes: &[u8; 200], into: &mut Option<Record>) -> Result<bool, usize
     requires leg { columns 1 1 bytes.now ≢ 51 ∷ [] }
     requires segment { columns 1 1 bytes.now ≢ 52 ∷ [] }
     ensures ok { IfOk result (λ known. IsTrue known → HasSpelt into.new bytes.now) }
-    ensures none { IfOk result (λ known. known ≡ false → (number : ℕ)
-        → fault_of number bytes.now ≡ Some (RecordFault.BadType number)) }
-    ensures err { IfErr result (λ column. (number : ℕ)
-        → fault_of number bytes.now ≡ Some (RecordFault.BadColumn number column)) }
+    ensures none { IfOk result (λ known. known ≡ false → HasBadType bytes.now) }
+    ensures err { IfErr result (HasBadColumn bytes.now) }
 {
     match kind_of(bytes) {
         b'1' => *into = Some(Record::Header(read_header(bytes)?)),
@@ -70,8 +69,7 @@ fn put_leg(
 ) -> Result<(), usize>
     requires { columns 1 1 bytes.now ≡ 51 ∷ [] }
     ensures ok { OnOk result (HasSpelt into.new bytes.now) }
-    ensures err { IfErr result (λ column. (number : ℕ)
-        → fault_of number bytes.now ≡ Some (RecordFault.BadColumn number column)) }
+    ensures err { IfErr result (HasBadColumn bytes.now) }
 {
     let head = read_leg_head(bytes, latest)?;
     match into {
@@ -90,8 +88,7 @@ fn put_segment(
 ) -> Result<(), usize>
     requires { columns 1 1 bytes.now ≡ 52 ∷ [] }
     ensures ok { OnOk result (HasSpelt into.new bytes.now) }
-    ensures err { IfErr result (λ column. (number : ℕ)
-        → fault_of number bytes.now ≡ Some (RecordFault.BadColumn number column)) }
+    ensures err { IfErr result (HasBadColumn bytes.now) }
 {
     let head = read_segment_head(bytes, latest)?;
     match into {
@@ -113,10 +110,8 @@ fn put_record(
     into: &mut Option<Record>,
 ) -> Result<bool, usize>
     ensures ok { IfOk result (λ known. IsTrue known → HasSpelt into.new bytes.now) }
-    ensures none { IfOk result (λ known. known ≡ false → (number : ℕ)
-        → fault_of number bytes.now ≡ Some (RecordFault.BadType number)) }
-    ensures err { IfErr result (λ column. (number : ℕ)
-        → fault_of number bytes.now ≡ Some (RecordFault.BadColumn number column)) }
+    ensures none { IfOk result (λ known. known ≡ false → HasBadType bytes.now) }
+    ensures err { IfErr result (HasBadColumn bytes.now) }
 {
     match kind_of(bytes) {
         b'3' => put_leg(bytes, latest, into)?,
