@@ -36,13 +36,7 @@ impl Model for LegName {
       sequence = n.sequence;
     } };
 
-    ghost invariant = { λ n. IsName
-        (record {
-          airline = n.airline;
-          flight = n.flight;
-          variation = n.variation;
-          sequence = n.sequence;
-        }) };
+    ghost invariant = { λ n. IsName (view n) };
 
     ghost inverse = { λ v. record {
       airline = v.airline;

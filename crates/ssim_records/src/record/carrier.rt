@@ -85,17 +85,7 @@ impl Model for Carrier {
       serial = r.serial;
     } };
 
-    ghost invariant = { λ r. IsCarrier
-        (record {
-          time_mode = r.time_mode;
-          airline = r.airline;
-          season = r.season;
-          first = r.first;
-          last = r.last;
-          created = r.created;
-          details = r.details;
-          serial = r.serial;
-        }) };
+    ghost invariant = { λ r. IsCarrier (view r) };
 
     ghost inverse = { λ v. record {
       time_mode = v.time_mode;

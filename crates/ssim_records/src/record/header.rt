@@ -33,7 +33,7 @@ impl Model for Header {
 
     ghost view = { λ r. record { details = r.details; serial = r.serial } };
 
-    ghost invariant = { λ r. IsHeader (record { details = r.details; serial = r.serial }) };
+    ghost invariant = { λ r. IsHeader (view r) };
 
     ghost inverse = { λ v. record { details = v.details; serial = v.serial } };
 }

@@ -51,17 +51,7 @@ impl Model for LegRecord {
       serial = r.serial;
     } };
 
-    ghost invariant = { λ r. IsLeg
-        (record {
-          name = r.name;
-          first = r.first;
-          last = r.last;
-          days = r.days;
-          rate = r.rate;
-          columns = r.columns;
-          overflow = r.overflow;
-          serial = r.serial;
-        }) };
+    ghost invariant = { λ r. IsLeg (view r) };
 
     ghost inverse = { λ v. record {
       name = v.name;

@@ -41,14 +41,7 @@ impl Model for SegmentRecord {
       serial = r.serial;
     } };
 
-    ghost invariant = { λ r. IsSegment
-        (record {
-          name = r.name;
-          service = r.service;
-          tail = r.tail;
-          overflow = r.overflow;
-          serial = r.serial;
-        }) };
+    ghost invariant = { λ r. IsSegment (view r) };
 
     ghost inverse = { λ v. record {
       name = v.name;

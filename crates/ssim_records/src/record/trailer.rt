@@ -79,15 +79,7 @@ impl Model for Trailer {
       serial = r.serial;
     } };
 
-    ghost invariant = { λ r. IsTrailer
-        (record {
-          spare = r.spare;
-          airline = r.airline;
-          release = r.release;
-          check = r.check;
-          code = r.code;
-          serial = r.serial;
-        }) };
+    ghost invariant = { λ r. IsTrailer (view r) };
 
     ghost inverse = { λ v. record {
       spare = v.spare;
