@@ -31,14 +31,18 @@ part first end days =
     if nat_lt first end && any_weekday days
     then Some (record { first = first; last = end - 1; days = days }) else None
 
+-- the part of a period between the first and the last day of another, on these weekdays
+abbrev pub part_within : DayRange → DayRange → List Bool → Option DayRange
+part_within own other days =
+    part (max own.first other.first) (min own.last other.last + 1) days
+
 -- the days of a period before the first day of another
 abbrev pub before_part : DayRange → DayRange → Option DayRange
 before_part own other = part own.first (min (own.last + 1) other.first) own.days
 
 -- the days of a period between the first and the last day of another, on other weekdays
 abbrev pub beside_part : DayRange → DayRange → Option DayRange
-beside_part own other =
-    part (max own.first other.first) (min own.last other.last + 1) (days_of_one own.days other.days)
+beside_part own other = part_within own other (days_of_one own.days other.days)
 
 -- the days of a period after the last day of another
 abbrev pub after_part : DayRange → DayRange → Option DayRange
@@ -46,9 +50,7 @@ after_part own other = part (max own.first (other.last + 1)) (own.last + 1) own.
 
 -- the days of a period that another has too
 abbrev pub common_part : DayRange → DayRange → Option DayRange
-common_part own other =
-    part (max own.first other.first) (min own.last other.last + 1)
-    (days_of_both own.days other.days)
+common_part own other = part_within own other (days_of_both own.days other.days)
 
 -- the first of two that is there
 abbrev pub first_of : Option DayRange → Option DayRange → Option DayRange

@@ -1,6 +1,6 @@
 //! The parts of a period without the days of another, and the days that both have.
 ghost use Rattle.std.specs.Prelude.{◌≡◌, ◌≤◌, ℕ};
-ghost use Rattle.ssim_periods.specs.internal.Parts.{any_weekday, days_of_both, days_of_one, part, before_part, beside_part, after_part, common_part, first_part, second_part, third_part};
+ghost use Rattle.ssim_periods.specs.internal.Parts.{any_weekday, days_of_both, days_of_one, part, part_within, before_part, beside_part, after_part, common_part, first_part, second_part, third_part};
 
 use crate::cover::period_of;
 use ssim_values::Period;
@@ -54,6 +54,15 @@ fn part(first: u32, end: u32, days: [bool; 7]) -> Option<Period>
     Some(period_of(first, end - 1, days))
 }
 
+// The part of a period between the first and the last day of another, on these weekdays.
+fn part_within(own: &Period, other: &Period, days: [bool; 7]) -> Option<Period>
+    ensures { result ≡ part_within own.now other.now days }
+{
+    let first = own.first().number().max(other.first().number()) as u32;
+    let last = own.last().number().min(other.last().number()) as u32;
+    part(first, last + 1, days)
+}
+
 // The days of a period before the first day of another.
 fn before_part(own: &Period, other: &Period) -> Option<Period>
     ensures { result ≡ before_part own.now other.now }
@@ -71,13 +80,8 @@ fn before_part(own: &Period, other: &Period) -> Option<Period>
 fn beside_part(own: &Period, other: &Period) -> Option<Period>
     ensures { result ≡ beside_part own.now other.now }
 {
-    let first = own.first().number().max(other.first().number()) as u32;
-    let last = own.last().number().min(other.last().number()) as u32;
-    part(
-        first,
-        last + 1,
-        of_one(&own.mask().days(), &other.mask().days()),
-    )
+    let days = of_one(&own.mask().days(), &other.mask().days());
+    part_within(own, other, days)
 }
 
 // The days of a period after the last day of another.
@@ -94,13 +98,8 @@ fn after_part(own: &Period, other: &Period) -> Option<Period>
 pub(crate) fn common_part(own: &Period, other: &Period) -> Option<Period>
     ensures { result ≡ common_part own.now other.now }
 {
-    let first = own.first().number().max(other.first().number()) as u32;
-    let last = own.last().number().min(other.last().number()) as u32;
-    part(
-        first,
-        last + 1,
-        of_both(&own.mask().days(), &other.mask().days()),
-    )
+    let days = of_both(&own.mask().days(), &other.mask().days());
+    part_within(own, other, days)
 }
 
 // The first of the parts of a period without the days of another: before it, between its first and
