@@ -74,7 +74,22 @@ fn in_order(one: &Period, other: &Period) -> Option<Period>
     if let Some(both) = begun_earlier(one, other) {
         return Some(both);
     }
-    joined_in_order(one, other)
+    let days = WeekdayBits::of(one.mask().days());
+    let others = WeekdayBits::of(other.mask().days());
+    let all = days.either(others);
+    if !have_days(all, one, days, other, others) {
+        return None;
+    }
+    let mask = DayMask::of(all.days())?;
+    let last = if one.last().number() < other.last().number() {
+        other.last()
+    } else {
+        one.last()
+    };
+    match Period::new(one.first(), last, mask) {
+        Ok(period) => Some(period),
+        Err(_) => None,
+    }
 }
 
 // Whether a week or more lies between two periods. Most periods that are not joined do.
@@ -105,33 +120,6 @@ fn begun_earlier(one: &Period, other: &Period) -> Option<Period>
         return None;
     }
     match Period::new(one.first(), other.last(), other.mask()) {
-        Ok(period) => Some(period),
-        Err(_) => None,
-    }
-}
-
-// The same if the first period begins no later than the other.
-fn joined_in_order(one: &Period, other: &Period) -> Option<Period>
-    requires { one.now.first ≤ other.now.first }
-    ensures days { IfSome result (λ both. (n : ℕ)
-        → holds both n ≡ (holds one.now n || holds other.now n)) }
-    ensures first { IfSome result (λ both. both.first ≡ one.now.first) }
-    ensures last { IfSome result (λ both. (both.last ≡ one.now.last)
-        ⊎ (both.last ≡ other.now.last)) }
-{
-    let days = WeekdayBits::of(one.mask().days());
-    let others = WeekdayBits::of(other.mask().days());
-    let all = days.either(others);
-    if !have_days(all, one, days, other, others) {
-        return None;
-    }
-    let mask = DayMask::of(all.days())?;
-    let last = if one.last().number() < other.last().number() {
-        other.last()
-    } else {
-        one.last()
-    };
-    match Period::new(one.first(), last, mask) {
         Ok(period) => Some(period),
         Err(_) => None,
     }
