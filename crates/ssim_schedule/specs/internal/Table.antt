@@ -1,10 +1,10 @@
 -- How a schedule stores its flights: entries that rise by number and suffix of the flight.
-use Rattle.std.specs.Prelude.{◌≡◌, ◌⊎◌, ℕ, ◌+◌, ◌<◌, ◌≤◌, nat_eq, if◌then◌else◌, List, [], ◌∷◌, length, slice_index_or, Contains}
+use Rattle.std.specs.Prelude.{◌≡◌, ◌⊎◌, ℕ, ◌+◌, ◌<◌, ◌≤◌, Bool, nat_eq, if◌then◌else◌, List, [], ◌∷◌, length, slice_index_or, Contains}
 use Rattle.ssim_values.specs.Flight.{FlightNumber}
 use Rattle.ssim_values.specs.Period.{DayRange}
-use Rattle.ssim_periods.specs.Days.{each_day}
+use Rattle.ssim_periods.specs.Days.{changed_on, each_day}
 use Rattle.ssim_base.specs.ReadBack.{place_of}
-use Rattle.ssim_base.specs.Timetable.{Days}
+use Rattle.ssim_base.specs.Timetable.{Days, Legs}
 use Rattle.ssim_schedule.specs.declared.timetable.flight_table.FlightPeriods.{FlightPeriods}
 
 -- the stored flights, each with its itineraries and cuts
@@ -59,3 +59,17 @@ AddsOnlyAt flight period g old new =
     (cut : ℕ) → Contains new cut
     → Contains old cut ⊎ ((place_of flight ≡ place_of g)
     × ((cut ≡ period.first) ⊎ (cut ≡ period.last + 1)))
+
+-- On the days of a set the flight's itinerary is the outcome of a change. No other itinerary
+-- changes.
+abbrev pub ChangesOn : FlightNumber → (ℕ → Bool) → (Legs → Legs) → Table → Table → Type 0
+ChangesOn flight is_in outcome old new =
+    (g : FlightNumber) → table_days new g
+    ≡ (if nat_eq (place_of flight) (place_of g) then changed_on is_in outcome 0 (table_days old g)
+    else table_days old g)
+
+-- the new cuts of each flight are old ones, or, of the flight whose dates were changed, an end of
+-- the period
+abbrev pub AddsEnds : FlightNumber → DayRange → Table → Table → Type 0
+AddsEnds flight period old new =
+    (g : FlightNumber) → AddsOnlyAt flight period g (table_cuts old g) (table_cuts new g)

@@ -1,13 +1,11 @@
 //! The itineraries of flights while records are put into them, from flight to flight.
 
-ghost use Rattle.std.specs.Prelude.{◌≡◌, ℕ, nat_eq, if◌then◌else◌, Contains, IfOk, OnOk, [], None};
+ghost use Rattle.std.specs.Prelude.{◌≡◌, ℕ, Contains, IfOk, OnOk, [], None};
 ghost use Rattle.ssim_values.specs.Flight.{FlightNumber};
 ghost use Rattle.ssim_periods.specs.Calendar.{holds};
-ghost use Rattle.ssim_periods.specs.Days.{changed_on};
 ghost use Rattle.ssim_schedule.specs.internal.TableBuilder.{is_current, table_of};
 ghost use Rattle.ssim_schedule.specs.PlacedLegs.{placed_each};
-ghost use Rattle.ssim_base.specs.ReadBack.{place_of};
-ghost use Rattle.ssim_schedule.specs.internal.Table.{AddsOnlyAt, table_cuts, table_days};
+ghost use Rattle.ssim_schedule.specs.internal.Table.{AddsEnds, ChangesOn, table_cuts, table_days};
 
 use crate::builder::leg_group::LegGroup;
 use crate::builder::run::{MOST, Run, add_to_runs};
@@ -58,13 +56,10 @@ impl TableBuilder {
         period: &Period,
         group: &mut LegGroup,
     ) -> Result<(), Memory>
-        ensures days { OnOk result ((g : FlightNumber) → table_days (table_of self.new) g
-            ≡ (if nat_eq (place_of flight) (place_of g)
-            then changed_on (holds period.now) (placed_each group.old.legs) 0
-            (table_days (table_of self.old) g)
-            else table_days (table_of self.old) g)) }
-        ensures cuts { OnOk result ((g : FlightNumber) → AddsOnlyAt flight period.now g
-            (table_cuts (table_of self.old) g) (table_cuts (table_of self.new) g)) }
+        ensures days { OnOk result (ChangesOn flight (holds period.now)
+            (placed_each group.old.legs) (table_of self.old) (table_of self.new)) }
+        ensures cuts { OnOk result
+            (AddsEnds flight period.now (table_of self.old) (table_of self.new)) }
     {
         if self.is_current(flight) {
             let alloc = self.blocks.allocator();
@@ -91,13 +86,10 @@ impl TableBuilder {
         period: &Period,
         group: &mut LegGroup,
     ) -> Result<(), Memory>
-        ensures days { OnOk result ((g : FlightNumber) → table_days (table_of self.new) g
-            ≡ (if nat_eq (place_of flight) (place_of g)
-            then changed_on (holds period.now) (placed_each group.old.legs) 0
-            (table_days (table_of self.old) g)
-            else table_days (table_of self.old) g)) }
-        ensures cuts { OnOk result ((g : FlightNumber) → AddsOnlyAt flight period.now g
-            (table_cuts (table_of self.old) g) (table_cuts (table_of self.new) g)) }
+        ensures days { OnOk result (ChangesOn flight (holds period.now)
+            (placed_each group.old.legs) (table_of self.old) (table_of self.new)) }
+        ensures cuts { OnOk result
+            (AddsEnds flight period.now (table_of self.old) (table_of self.new)) }
     {
         self.put_back()?;
         let alloc = self.blocks.allocator();

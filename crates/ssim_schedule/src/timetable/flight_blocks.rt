@@ -5,7 +5,7 @@ ghost use Rattle.std.specs.List.Sorted.{IsStrictlyIncreasing};
 ghost use Rattle.ssim_values.specs.Calendar.{weekday};
 ghost use Rattle.ssim_values.specs.Flight.{FlightNumber};
 ghost use Rattle.ssim_periods.specs.Calendar.{holds};
-ghost use Rattle.ssim_periods.specs.Days.{changed_on, counts_on};
+ghost use Rattle.ssim_periods.specs.Days.{counts_on};
 ghost use Rattle.ssim_schedule.specs.internal.Blocks.{block_of, joined};
 ghost use Rattle.ssim_base.specs.ReadBack.{place_of};
 ghost use Rattle.ssim_base.specs.Timetable.{on_day};
@@ -44,7 +44,7 @@ impl Model for FlightBlocks {
 }
 
 impl FlightBlocks {
-    ghost use Rattle.ssim_schedule.specs.internal.Table.{AddsOnlyAt, AreRising, table_cuts, table_days};
+    ghost use Rattle.ssim_schedule.specs.internal.Table.{AddsEnds, AreRising, ChangesOn, table_cuts, table_days};
 
     /// No flight flies on any date. All blocks are there, and empty.
     pub(crate) fn new(alloc: Global) -> Result<FlightBlocks, Memory>
@@ -97,12 +97,9 @@ impl FlightBlocks {
         period: &Period,
         change: &C,
     ) -> Result<[u32; 5], Memory>
-        ensures days { OnOk result ((g : FlightNumber)
-            → table_days self.new g ≡ (if nat_eq (place_of flight) (place_of g)
-            then changed_on (holds period.now) (C.outcome change.now) 0 (table_days self.old g)
-            else table_days self.old g)) }
-        ensures cuts { OnOk result ((g : FlightNumber)
-            → AddsOnlyAt flight period.now g (table_cuts self.old g) (table_cuts self.new g)) }
+        ensures days { OnOk result
+            (ChangesOn flight (holds period.now) (C.outcome change.now) self.old self.new) }
+        ensures cuts { OnOk result (AddsEnds flight period.now self.old self.new) }
         ensures counts { IfOk result (λ counts. counts
             ≡ counts_on (holds period.now) (C.class_of change.now) (table_days self.old flight)) }
         ensures err { OnErr result (self.new ≡ self.old) }

@@ -5,7 +5,7 @@ ghost use Rattle.std.specs.List.Sorted.{IsStrictlyIncreasing};
 ghost use Rattle.ssim_values.specs.Calendar.{weekday};
 ghost use Rattle.ssim_values.specs.Flight.{FlightNumber, IsFlight};
 ghost use Rattle.ssim_periods.specs.Calendar.{holds};
-ghost use Rattle.ssim_periods.specs.Days.{AddsOnly, changed_on, counts_on};
+ghost use Rattle.ssim_periods.specs.Days.{counts_on};
 ghost use Rattle.ssim_base.specs.Export.{flight_at};
 ghost use Rattle.ssim_base.specs.ReadBack.{place_of};
 ghost use Rattle.ssim_base.specs.Timetable.{on_day};
@@ -45,7 +45,7 @@ impl Model for FlightTable {
 }
 
 impl FlightTable {
-    ghost use Rattle.ssim_schedule.specs.internal.Table.{AddsOnlyAt, AreRising, IsAt, IsGapFor, table_cuts, table_days};
+    ghost use Rattle.ssim_schedule.specs.internal.Table.{AddsEnds, AreRising, ChangesOn, IsAt, IsGapFor, table_cuts, table_days};
 
     /// No flight flies on any date.
     pub(crate) fn new(alloc: Global) -> FlightTable
@@ -93,12 +93,9 @@ impl FlightTable {
         period: &Period,
         change: &C,
     ) -> Result<[u32; 5], Memory>
-        ensures days { OnOk result ((g : FlightNumber)
-            → table_days self.new g ≡ (if nat_eq (place_of flight) (place_of g)
-            then changed_on (holds period.now) (C.outcome change.now) 0 (table_days self.old g)
-            else table_days self.old g)) }
-        ensures cuts { OnOk result ((g : FlightNumber)
-            → AddsOnlyAt flight period.now g (table_cuts self.old g) (table_cuts self.new g)) }
+        ensures days { OnOk result
+            (ChangesOn flight (holds period.now) (C.outcome change.now) self.old self.new) }
+        ensures cuts { OnOk result (AddsEnds flight period.now self.old self.new) }
         ensures counts { IfOk result (λ counts. counts
             ≡ counts_on (holds period.now) (C.class_of change.now) (table_days self.old flight)) }
         ensures block { (k : ℕ) → IsBlock k self.old → block_of flight ≡ k → IsBlock k self.new }
@@ -109,7 +106,13 @@ impl FlightTable {
                 let own = self.flights[place].periods.own(self.alloc)?;
                 own.apply(period, change)
             }
-            Err(place) => self.change_first(place, flight, period, change),
+            Err(gap) => {
+                let mut periods = Periods::new(self.alloc);
+                let counts = periods.apply(period, change)?;
+                let periods = Shared::of(self.alloc, periods)?;
+                self.flights.insert(gap, FlightPeriods { flight, periods })?;
+                Ok(counts)
+            }
         }
     }
 
@@ -122,33 +125,6 @@ impl FlightTable {
             self.flights[place].periods = Shared::of(self.alloc, shared)?;
         }
         Ok(())
-    }
-
-    // `change` for a flight that has no entry yet. Its entry is inserted at `gap`.
-    fn change_first<C: Change<Itinerary>>(
-        &mut self,
-        gap: usize,
-        flight: Flight,
-        period: &Period,
-        change: &C,
-    ) -> Result<[u32; 5], Memory>
-        requires { IsGapFor self.old flight gap }
-        ensures days { OnOk result ((g : FlightNumber)
-            → table_days self.new g ≡ (if nat_eq (place_of flight) (place_of g)
-            then changed_on (holds period.now) (C.outcome change.now) 0 (table_days self.old g)
-            else table_days self.old g)) }
-        ensures cuts { OnOk result ((g : FlightNumber)
-            → AddsOnlyAt flight period.now g (table_cuts self.old g) (table_cuts self.new g)) }
-        ensures counts { IfOk result (λ counts. counts
-            ≡ counts_on (holds period.now) (C.class_of change.now) (table_days self.old flight)) }
-        ensures block { (k : ℕ) → IsBlock k self.old → block_of flight ≡ k → IsBlock k self.new }
-        ensures err { OnErr result (self.new ≡ self.old) }
-    {
-        let mut periods = Periods::new(self.alloc);
-        let counts = periods.apply(period, change)?;
-        let periods = Shared::of(self.alloc, periods)?;
-        self.flights.insert(gap, FlightPeriods { flight, periods })?;
-        Ok(counts)
     }
 
     /// A copy of the periods of a flight. The copy shares the itineraries.
