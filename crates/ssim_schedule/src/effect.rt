@@ -103,6 +103,8 @@ impl Schedule {
 }
 
 impl FlightBlocks {
+    // Acts at once if the effect is the same on all days of the period, else on a copy of the
+    // flight's periods, which replaces them after the last part.
     fn act(
         &mut self,
         rows: &[StationRow],
@@ -120,55 +122,11 @@ impl FlightBlocks {
             (table_cuts self.new g)) }
         ensures err { OnErr result (self.new ≡ self.old) }
     {
-        if is_uniform(rows, action, period) {
-            self.act_at_once(rows, action, flight, period)
-        } else {
-            self.act_by_parts(rows, action, flight, period)
-        }
-    }
-
-    // The effect is the same on all days of the period.
-    fn act_at_once(
-        &mut self,
-        rows: &[StationRow],
-        action: &Action,
-        flight: Flight,
-        period: &Period,
-    ) -> Result<[u32; 5], Memory>
-        requires { IsUniform rows.now action.now period.now }
-        ensures days { OnOk result ((g : FlightNumber)
-            → table_days self.new g ≡ after_sub rows.now action.now flight period.now
-            (table_days self.old) g) }
-        ensures counts { IfOk result (λ counts. counts
-            ≡ counts_by rows.now action.now (holds period.now) (table_days self.old flight)) }
-        ensures cuts { OnOk result ((g : FlightNumber)
-            → AddsPointsOf flight rows.now action.now period.now g (table_cuts self.old g)
-            (table_cuts self.new g)) }
-        ensures err { OnErr result (self.new ≡ self.old) }
-    {
-        let change = SubMessageChange::on(self.allocator(), rows, action, period.first())?;
-        self.change(flight, period, &change)
-    }
-
-    // Acts on a copy of the flight's periods, which replaces them after the last part.
-    fn act_by_parts(
-        &mut self,
-        rows: &[StationRow],
-        action: &Action,
-        flight: Flight,
-        period: &Period,
-    ) -> Result<[u32; 5], Memory>
-        ensures days { OnOk result ((g : FlightNumber)
-            → table_days self.new g ≡ after_sub rows.now action.now flight period.now
-            (table_days self.old) g) }
-        ensures counts { IfOk result (λ counts. counts
-            ≡ counts_by rows.now action.now (holds period.now) (table_days self.old flight)) }
-        ensures cuts { OnOk result ((g : FlightNumber)
-            → AddsPointsOf flight rows.now action.now period.now g (table_cuts self.old g)
-            (table_cuts self.new g)) }
-        ensures err { OnErr result (self.new ≡ self.old) }
-    {
         let alloc = self.allocator();
+        if is_uniform(rows, action, period) {
+            let change = SubMessageChange::on(alloc, rows, action, period.first())?;
+            return self.change(flight, period, &change);
+        }
         let mut periods = self.copy_of(flight)?;
         let counts = act_on_parts(alloc, rows, action, period, &mut periods)?;
         self.put(flight, periods)?;
