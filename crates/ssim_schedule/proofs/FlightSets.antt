@@ -1,6 +1,6 @@
 -- Records of other flights change no itinerary of a flight. If the flight is not in the set,
 -- leaving records out changes none either.
-use Rattle.std.proofs.Common.{◌≡◌, ◌≢◌, ℕ, zero, suc, ◌+◌, ◌<◌, Bool, true, false, cond, ◌&&◌, ◌||◌, nat_eq, if◌then◌else◌, List, [], ◌∷◌, ◌++◌, length, take, set, get_or, slice_index_or, replicate, refl, sym, ap, subst, ◌∙◌, arith}
+use Rattle.std.proofs.Common.{◌≡◌, ◌≢◌, ℕ, zero, suc, ◌+◌, ◌<◌, Bool, true, false, cond, ◌&&◌, ◌||◌, nat_eq, if◌then◌else◌, List, [], ◌∷◌, ◌++◌, length, take, set, get_or, slice_index_or, replicate, refl, sym, ap, ◌∙◌, arith}
 use Rattle.std.proofs.lemmas.Bool.Decides.{nat_tests}
 use Rattle.std.proofs.lemmas.Grind.{get_or-set_at}
 use Rattle.std.proofs.lemmas.List.{get_or-set_other}
@@ -15,9 +15,8 @@ use Rattle.ssim_records.specs.declared.record.Record.{Record}
 use Rattle.ssim_records.specs.declared.record.Record.TheVariants.{Header, Carrier, Leg, Segment, Trailer}
 use Rattle.ssim_schedule.specs.DivisionPoints.{AreAtPoints, is_point}
 use Rattle.ssim_schedule.specs.internal.FlightSet.{is_marked, is_record_of}
-use Rattle.ssim_base.specs.ReadBack.{AreInOrder, place_of}
-use Rattle.ssim_base.specs.Timetable.{Above, LegValue, Legs, days_of, is_among, itinerary, itinerary_among, leg_of, period_of, placed, same_flight, same_name, tails_of}
-use Rattle.ssim_base.proofs.Calendars.{at-each_day}
+use Rattle.ssim_base.specs.ReadBack.{place_of}
+use Rattle.ssim_base.specs.Timetable.{LegValue, Legs, days_of, is_among, itinerary, itinerary_among, leg_of, period_of, placed, same_flight, same_name, tails_of}
 use Rattle.ssim_base.proofs.Places.{same-true, same_flight-place}
 
 -- ---- marks
@@ -188,17 +187,6 @@ pub days_kept : (marks : List Bool) (flights : List FlightNumber) (rs : List Rec
 days_kept marks flights rs g same =
     each_day-same (itinerary (filter (is_record_of (is_marked marks)) rs) g) (itinerary_among flights rs g)
     (λ n within. itinerary_kept (is_marked marks) rs g n ∙ ap (λ b. if b then itinerary rs g n else []) same)
-
--- legs are in order on the days of some flights as on those of all
-pub order_among : (flights : List FlightNumber) (rs : List Record) → AreInOrder (days_of rs) → AreInOrder (λ g. each_day (itinerary_among flights rs g))
-order_among flights rs order g n exists within = subst (Above 0) (sym (at-each_day (itinerary_among flights rs g) n within)) (by (is_among flights g))
-  where
-    all : Above 0 (itinerary rs g n)
-    all = subst (Above 0) (at-each_day (itinerary rs g) n within) (order g n exists within)
-
-    by : (b : Bool) → Above 0 (if b then itinerary rs g n else [])
-    by true = all
-    by false = tt
 
 -- ---- one record more
 

@@ -1,6 +1,6 @@
 -- One more record before those that were built: each case of the definitions, day by day and name
 -- by name.
-use Rattle.std.proofs.Common.{◌≡◌, ℕ, ◌+◌, ◌*◌, ◌<◌, Bool, ◌⊎◌, inl, inr, Contains, true, false, ◌&&◌, ◌||◌, nat_eq, if◌then◌else◌, IsTrue, List, [], ◌∷◌, ◌++◌, Option, Some, None, unwrap_or, refl, sym, ap, subst, ◌∙◌, arith}
+use Rattle.std.proofs.Common.{◌≡◌, ℕ, suc, ◌+◌, ◌-◌, ◌*◌, ◌<◌, Bool, ◌⊎◌, inl, inr, Contains, true, false, ◌&&◌, ◌||◌, nat_eq, if◌then◌else◌, IsTrue, List, [], ◌∷◌, ◌++◌, Option, Some, None, unwrap_or, length, drop, drop-cons, get_or, refl, sym, ap, subst, ◌∙◌, arith}
 use Rattle.std.proofs.lemmas.List.{append-nil}
 use Rattle.std.specs.List.{list_any}
 use Rattle.std.proofs.lemmas.Bool.Decides.{nat_tests}
@@ -32,6 +32,12 @@ use Rattle.ssim_schedule.specs.declared.builder.table_builder.TableBuilder.{Tabl
 use Rattle.ssim_schedule.specs.declared.builder.timetable_builder.TimetableBuilder.{TimetableBuilder}
 use Rattle.ssim_schedule.specs.declared.builder.leg_group.Heading.{Heading}
 use Rattle.ssim_schedule.proofs.PlacedLegLemmas.{placed_more}
+
+-- the records from the one before an index on
+pub drop-before : (records : List Record) (place : ℕ) (one : Record) → 0 < place → place - 1 < length records → one ≡ get_or records (place - 1) one → drop (place - 1) records ≡ one ∷ drop place records
+drop-before records place one some within is =
+    let back : suc (place - 1) ≡ place = omega arith in
+    drop-cons records (place - 1) one within ∙ ap (λ (r : Record). r ∷ drop (suc (place - 1)) records) (sym is) ∙ ap (λ (k : ℕ). one ∷ drop k records) back
 
 parts_told : (x y v w s t : ℕ) → v < 100 → w < 100 → s < 100 → t < 100 → (x * 100 + v) * 100 + s ≡ (y * 100 + w) * 100 + t → (x ≡ y) × (v ≡ w) × (s ≡ t)
 parts_told x y v w s t a b c d e = (omega arith, omega arith, omega arith)

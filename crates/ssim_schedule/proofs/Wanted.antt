@@ -1,6 +1,7 @@
 -- The days of a period from a first date to a last, and the timetable of these dates.
 use Rattle.std.proofs.Common.{◌≡◌, ℕ, ◌<◌, ◌≤◌, Bool, true, false, ◌&&◌, nat_le, if◌then◌else◌, List, [], Option, None, refl, sym, ap, subst, ◌∙◌, slice_index_or, arith}
 use Rattle.std.proofs.lemmas.Bool.Decides.{nat_tests}
+use Rattle.ssim_values.specs.Flight.{FlightNumber}
 use Rattle.ssim_values.specs.Period.{DayRange}
 use Rattle.ssim_periods.specs.Calendar.{holds, slot}
 use Rattle.ssim_periods.specs.Days.{each_day}
@@ -8,7 +9,6 @@ use Rattle.ssim_records.specs.declared.record.Record.{Record}
 use Rattle.ssim_base.specs.ReadBack.{AreInOrder}
 use Rattle.ssim_base.specs.Timetable.{Above, days_of, itinerary}
 use Rattle.ssim_base.proofs.Calendars.{at-each_day}
-use Rattle.ssim_schedule.specs.Dates.{itinerary_between}
 use Rattle.ssim_schedule.specs.internal.WantedDates.{IsPart, is_wanted}
 
 -- ---- days in both
@@ -83,9 +83,9 @@ turned from to never = by (nat_le from to) refl
 
 -- ---- the timetable of some dates
 
--- legs are in order on these dates as on all
-pub order_between : (first last : ℕ) (rs : List Record) → AreInOrder (days_of rs) → AreInOrder (λ g. each_day (itinerary_between first last rs g))
-order_between first last rs order g n exists within = subst (Above 0) (sym (at-each_day (itinerary_between first last rs g) n within)) (by (nat_le first n && nat_le n last))
+-- legs are in order if some dates of flights are left out
+pub order_kept : (kept : FlightNumber → ℕ → Bool) (rs : List Record) → AreInOrder (days_of rs) → AreInOrder (λ g. each_day (λ n. if kept g n then itinerary rs g n else []))
+order_kept kept rs order g n exists within = subst (Above 0) (sym (at-each_day (λ n. if kept g n then itinerary rs g n else []) n within)) (by (kept g n))
   where
     all : Above 0 (itinerary rs g n)
     all = subst (Above 0) (at-each_day (itinerary rs g) n within) (order g n exists within)

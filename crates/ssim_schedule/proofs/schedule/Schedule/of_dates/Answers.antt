@@ -1,5 +1,5 @@
 -- The timetable of the records on the wanted dates is one, and the table has its days.
-use Rattle.std.proofs.Common.{[], List, Some, ap, subst, ◌∙◌}
+use Rattle.std.proofs.Common.{◌&&◌, nat_le, [], List, Some, ap, subst, ◌∙◌}
 use Rattle.ssim_periods.specs.Days.{each_day}
 use Rattle.ssim_records.specs.declared.record.Record.{Record}
 use Rattle.ssim_schedule.specs.Dates.{itinerary_between}
@@ -9,7 +9,7 @@ use Rattle.ssim_base.specs.ReadBack.{AreInOrder}
 use Rattle.ssim_base.proofs.Calendars.{length-each_day}
 use Rattle.ssim_schedule.proofs.InOrder.{timetable-same}
 use Rattle.ssim_schedule.proofs.TimetableBuilderLemmas.{built_all}
-use Rattle.ssim_schedule.proofs.Wanted.{order_between}
+use Rattle.ssim_schedule.proofs.Wanted.{order_kept}
 use Rattle.ssim_schedule.proofs.schedule.Schedule.of_dates.Goals as goal
 
 pub returns : goal.returns
@@ -31,5 +31,5 @@ invariant_of-result c =
     (λ g is. c.in_ok-table.ensures.days (Some (first, last)) rs built g is ∙ ap (λ (xs : List Record). each_day (itinerary_between first last xs g)) c.into_parts-records.ensures.value)
     (record {
       each_day = λ g is. length-each_day (itinerary_between first last all g);
-      rising = order_between first last all (subst (λ (xs : List Record). AreInOrder (days_of xs)) c.records.ensures.value c.records.ensures.in_order);
+      rising = order_kept (λ g n. nat_le first n && nat_le n last) all (subst (λ (xs : List Record). AreInOrder (days_of xs)) c.records.ensures.value c.records.ensures.in_order);
     })

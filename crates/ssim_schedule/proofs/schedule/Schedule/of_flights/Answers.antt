@@ -7,12 +7,13 @@ use Rattle.ssim_values.specs.Flight.{FlightNumber}
 use Rattle.ssim_schedule.specs.DivisionPoints.{AreAtPoints}
 use Rattle.ssim_schedule.specs.internal.FlightSet.{is_marked, is_record_of}
 use Rattle.ssim_schedule.specs.internal.Table.{table_cuts, table_days}
-use Rattle.ssim_base.specs.Timetable.{days_of, itinerary_among}
+use Rattle.ssim_base.specs.Timetable.{days_of, is_among, itinerary_among}
 use Rattle.ssim_base.specs.ReadBack.{AreInOrder}
 use Rattle.ssim_base.proofs.Calendars.{length-each_day}
-use Rattle.ssim_schedule.proofs.FlightSets.{all_points, days_kept, no_points, order_among}
+use Rattle.ssim_schedule.proofs.FlightSets.{all_points, days_kept, no_points}
 use Rattle.ssim_schedule.proofs.InOrder.{timetable-same}
 use Rattle.ssim_schedule.proofs.TimetableBuilderLemmas.{built_all}
+use Rattle.ssim_schedule.proofs.Wanted.{order_kept}
 use Rattle.ssim_schedule.proofs.schedule.Schedule.of_flights.Goals as goal
 
 pub returns-clause-days : goal.returns-clause-days
@@ -55,5 +56,5 @@ invariant_of-result c =
     (λ g is. c.in_ok-table.ensures.days None kept built g is ∙ ap (λ (xs : List Record). days_of (filter p xs) g) c.records.ensures.value ∙ days_kept c.in_ok-set.set.marks.items flights rs g (c.in_ok-set.ensures g is))
     (record {
       each_day = λ g is. length-each_day (itinerary_among flights rs g);
-      rising = order_among flights rs (subst (λ (xs : List Record). AreInOrder (days_of xs)) c.records.ensures.value c.records.ensures.in_order);
+      rising = order_kept (λ g n. is_among flights g) rs (subst (λ (xs : List Record). AreInOrder (days_of xs)) c.records.ensures.value c.records.ensures.in_order);
     })

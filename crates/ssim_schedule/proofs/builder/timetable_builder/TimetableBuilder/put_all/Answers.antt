@@ -1,9 +1,10 @@
 -- From the last record to the first: the records after an index are in the timetable.
-use Rattle.std.proofs.Common.{◌≡◌, ◌<◌, ◌-◌, ℕ, List, ◌∷◌, ◌++◌, suc, drop, length, sym, ap, subst, ◌∙◌, arith, drop-cons}
+use Rattle.std.proofs.Common.{◌≡◌, ◌<◌, ◌-◌, ℕ, List, ◌++◌, drop, length, sym, subst, arith}
 use Rattle.std.proofs.lemmas.List.{drop_all}
 use Rattle.ssim_records.specs.declared.record.Record.{Record}
 use Rattle.ssim_base.specs.Closed.{IsClosed}
 use Rattle.ssim_schedule.specs.internal.TimetableBuilder.{IsBuilt}
+use Rattle.ssim_schedule.proofs.TimetableBuilderLemmas.{drop-before}
 use Rattle.ssim_schedule.proofs.builder.timetable_builder.TimetableBuilder.put_all.Goals as goal
 
 pub loop-place-init : goal.loop-place-init
@@ -20,12 +21,9 @@ loop-place-preserved c =
     let records = c.args.records.now in
     let place = c.loop-place.place in
     let within : place - 1 < length records = omega (arith, c.loop-place.invariant.0) in
-    let back : suc (place - 1) ≡ place = omega arith in
-    let step : drop (place - 1) records ≡ c.index-records-place.result ∷ drop place records =
-    drop-cons records (place - 1) c.index-records-place.result within ∙ ap (λ (r : Record). r ∷ drop (suc (place - 1)) records) (sym c.index-records-place.is)
-    ∙ ap (λ (k : ℕ). c.index-records-place.result ∷ drop k records) back in (
+    let from = drop-before records place c.index-records-place.result c.loop-place-test.true within c.index-records-place.is in (
       omega (arith, c.loop-place.invariant.0),
-      λ wanted done built. subst (λ (before : List Record). IsBuilt wanted c.put.new.self (before ++ done)) (sym step) (c.in_ok-put.ensures wanted (drop place records ++ done) (c.loop-place.invariant.1 wanted done built)),
+      λ wanted done built. subst (λ (before : List Record). IsBuilt wanted c.put.new.self (before ++ done)) (sym from) (c.in_ok-put.ensures wanted (drop place records ++ done) (c.loop-place.invariant.1 wanted done built)),
     )
 
 pub returns : goal.returns

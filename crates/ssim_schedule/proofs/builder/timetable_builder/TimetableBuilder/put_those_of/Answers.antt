@@ -1,5 +1,5 @@
 -- From the last record to the first, as for all records; those of other flights are left out.
-use Rattle.std.proofs.Common.{◌≡◌, ◌<◌, ◌≤◌, ◌-◌, ℕ, Bool, List, ◌∷◌, ◌++◌, suc, drop, get_or, length, sym, ap, subst, ◌∙◌, arith, drop-cons}
+use Rattle.std.proofs.Common.{◌≡◌, ◌<◌, ◌≤◌, ◌-◌, ℕ, Bool, List, ◌∷◌, ◌++◌, drop, get_or, length, sym, subst, ◌∙◌, arith}
 use Rattle.std.proofs.lemmas.List.{drop_all}
 use Rattle.std.specs.List.{filter}
 use Rattle.ssim_records.specs.declared.record.Record.{Record}
@@ -7,13 +7,8 @@ use Rattle.ssim_base.specs.Closed.{IsClosed}
 use Rattle.ssim_schedule.specs.internal.TimetableBuilder.{IsBuilt}
 use Rattle.ssim_schedule.specs.internal.FlightSet.{is_marked, is_record_of}
 use Rattle.ssim_schedule.proofs.FlightSets.{one_kept, one_left_out}
+use Rattle.ssim_schedule.proofs.TimetableBuilderLemmas.{drop-before}
 use Rattle.ssim_schedule.proofs.builder.timetable_builder.TimetableBuilder.put_those_of.Goals as goal
-
--- the records from the one before an index on
-step : (records : List Record) (place : ℕ) (one : Record) → 0 < place → place - 1 < length records → one ≡ get_or records (place - 1) one → drop (place - 1) records ≡ one ∷ drop place records
-step records place one some within is =
-    let back : suc (place - 1) ≡ place = omega arith in
-    drop-cons records (place - 1) one within ∙ ap (λ (r : Record). r ∷ drop (suc (place - 1)) records) (sym is) ∙ ap (λ (k : ℕ). one ∷ drop k records) back
 
 -- what is built of the records so far is built of those from the one before an index on
 built_on : (B : List Record → Type 0) (is_in : Record → Bool) (records done built : List Record)
@@ -21,7 +16,7 @@ built_on : (B : List Record → Type 0) (is_in : Record → Bool) (records done 
     → one ≡ get_or records (place - 1) one → built ≡ filter is_in (one ∷ drop place records) ++ done
     → B built → B (filter is_in (drop (place - 1) records) ++ done)
 built_on B is_in records done built place one some within is same h =
-    let from = step records place one some (omega (arith, some, within)) is in
+    let from = drop-before records place one some (omega (arith, some, within)) is in
     subst (λ (before : List Record). B (filter is_in before ++ done)) (sym from) (subst B same h)
 
 pub loop-place-init : goal.loop-place-init
