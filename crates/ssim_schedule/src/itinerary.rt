@@ -266,8 +266,8 @@ fn push_copies(alloc: Global, all: &mut Vec<PlacedLeg>, legs: &[PlacedLeg]) -> R
     Ok(())
 }
 
-// Whether the two lists are one.
-fn same_legs(mine: &[PlacedLeg], theirs: &[PlacedLeg]) -> bool
+/// Whether two itineraries are equal, by their legs.
+pub fn same_legs(mine: &[PlacedLeg], theirs: &[PlacedLeg]) -> bool
     ensures { result ≡ same_itinerary mine.now theirs.now }
 {
     match mine.split_first() {

@@ -112,7 +112,8 @@ impl PlacedLeg {
     }
 }
 
-fn same_tails(mine: &[SegmentTail], theirs: &[SegmentTail]) -> bool
+/// Whether two lists of tails are equal.
+pub fn same_tails(mine: &[SegmentTail], theirs: &[SegmentTail]) -> bool
     ensures { result ≡ same_tails mine.now theirs.now }
 {
     if mine.len() != theirs.len() {

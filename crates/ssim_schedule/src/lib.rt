@@ -32,6 +32,6 @@ pub use export::flights::{flights_in_order, listed_flights_are_exported};
 pub use export::plan::FlightPieces;
 pub use export::{ExportFault, export_data_set};
 pub use finding::{Finding, Reason};
-pub use itinerary::Itinerary;
-pub use leg::{PlacedLeg, copy_legs};
+pub use itinerary::{Itinerary, same_legs};
+pub use leg::{PlacedLeg, copy_legs, same_tails};
 pub use schedule::Schedule;
