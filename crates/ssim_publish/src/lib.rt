@@ -42,7 +42,6 @@ mod flight_change;
 mod flight_periods;
 mod held_days;
 pub mod laws;
-mod legs;
 mod line_text;
 mod made_dates;
 mod mark;

@@ -9,8 +9,7 @@ ghost use Rattle.ssim_publish.specs.internal.Drafts.{AreWeekly, IsMadeOn};
 
 use crate::flight_change::FlightChange;
 use crate::held_days::holds_number;
-use crate::legs::same_legs;
-use ssim_schedule::Schedule;
+use ssim_schedule::{Schedule, same_legs};
 use ssim_values::{Day, Period};
 
 /// The days of a week.

@@ -5,13 +5,13 @@ ghost use Rattle.std.specs.Prelude.{◌≡◌, IfOk, ⊤};
 use crate::obstacle::Obstacle;
 use crate::retimed_legs::{have_same, have_same_route, have_same_times};
 use crate::said_days::SaidOfDay;
-use crate::segment_tails::{are_given, are_same, leg_lines};
+use crate::segment_tails::{are_given, leg_lines};
 use crate::wanted_leg::WantedLeg;
 use ssim_base::StationRow;
 use ssim_difference::Difference;
 use ssim_listing::push_sequence;
 use ssim_records::leg_fields::{AIRCRAFT_TYPE, BOOKING_DESIGNATORS, CONFIGURATION, SERVICE_TYPE};
-use ssim_schedule::PlacedLeg;
+use ssim_schedule::{PlacedLeg, same_tails};
 use ssim_values::{Day, Memory};
 use std::alloc::Global;
 use std::io::Write;
@@ -190,7 +190,7 @@ fn add_segments(
 ) -> Result<(), Memory> {
     let is_said = match old {
         None => are_given,
-        Some(old) => are_same(old.tails(), new.tails()),
+        Some(old) => same_tails(old.tails(), new.tails()),
     };
     if !is_said {
         found.push(Obstacle::Segments)?;

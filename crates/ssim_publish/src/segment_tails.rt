@@ -81,16 +81,3 @@ fn value_of(digit: u8) -> u16
 {
     digit.saturating_sub(b'0') as u16
 }
-
-/// Whether two lists of tails are equal.
-pub(crate) fn are_same(mine: &[SegmentTail], theirs: &[SegmentTail]) -> bool {
-    if mine.len() != theirs.len() {
-        return false;
-    }
-    for (place, tail) in mine.iter().enumerate() {
-        if !tail.same(&theirs[place]) {
-            return false;
-        }
-    }
-    true
-}

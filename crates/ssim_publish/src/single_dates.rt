@@ -12,11 +12,10 @@ use crate::date_actions::say;
 use crate::draft::Draft;
 use crate::flight_change::FlightChange;
 use crate::held_days::holds_number;
-use crate::legs::same_legs;
 use crate::single_period::period_of;
 use ssim_base::StationRow;
 use ssim_difference::{Difference, FlightDifference};
-use ssim_schedule::Schedule;
+use ssim_schedule::{Schedule, same_legs};
 use ssim_values::{Day, Memory, Period};
 use std::alloc::Global;
 
