@@ -151,11 +151,7 @@ pub(crate) fn load<S: Store>(alloc: Global, name: &str, store: &mut S) -> Result
     ensures same { S.files store.new ≡ S.files store.old }
     ensures counted { S.failures store.new ≡ S.failures store.old }
 {
-    match read_file(alloc, name, store) {
-        Ok(Ok(data_set)) => Ok(data_set),
-        Ok(Err(fault)) => Err(Refusal::from(fault)),
-        Err(refusal) => Err(refusal),
-    }
+    Ok(read_file(alloc, name, store)??)
 }
 
 /// Reads what the data set in the file of this name has.
@@ -169,11 +165,7 @@ pub(crate) fn load_summary<S: Store>(
     ensures same { S.files store.new ≡ S.files store.old }
     ensures counted { S.failures store.new ≡ S.failures store.old }
 {
-    match sum_file(alloc, name, store) {
-        Ok(Ok(summary)) => Ok(summary),
-        Ok(Err(fault)) => Err(Refusal::from(fault)),
-        Err(refusal) => Err(refusal),
-    }
+    Ok(sum_file(alloc, name, store)??)
 }
 
 /// Reads all problems of the data set in the file of this name. Returns 91 if there is no such file
