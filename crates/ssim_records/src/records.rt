@@ -132,6 +132,9 @@ impl Records {
     /// record `into` is `None`, and the number is the number of the last block. After the end, and
     /// after a refusal, each call returns the same. After a refusal `into` may have any record or
     /// none.
+    ///
+    /// It is inlined into each loop over records.
+    #[inline(always)]
     pub fn next_into<R: Source>(
         &mut self,
         reader: &mut R,
