@@ -5,7 +5,6 @@ ghost use Rattle.ssim_base.specs.Timetable.{itinerary};
 ghost use Rattle.ssim_desk.specs.DateSteps.{entry_steps, is_on, legs_left, step_of, sub_steps};
 ghost use Rattle.ssim_desk.specs.Meaning.{left_by};
 
-use crate::finding_line::identifier;
 use crate::flights::legs_after;
 use ssim_base::{Base, ResolvedSub, StationRow};
 use ssim_held::Held;
@@ -163,7 +162,7 @@ fn step_of(
     Ok(DateStep {
         reference: *reference,
         sub: number,
-        action: identifier(&sub.action),
+        action: sub.action.identifier(),
         reason,
         itinerary: date.itinerary()?,
     })

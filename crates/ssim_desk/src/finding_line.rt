@@ -1,13 +1,12 @@
 //! What each sub-message found, as lines.
 
 ghost use Rattle.std.specs.Prelude.{◌≡◌, ◌<◌, ◌+◌, ◌^◌, ◌++◌, length, OnOk};
-ghost use Rattle.ssim_text.specs.Grammar.{identifier_of};
 ghost use Rattle.ssim_desk.specs.Desk.{entry_lines, sub_lines};
 
 use crate::replay::MessageFindings;
 use ssim_held::Held;
 use ssim_schedule::Finding;
-use ssim_text::{Action, ActionIdentifier, Reference, Sub};
+use ssim_text::{ActionIdentifier, Reference, Sub};
 use ssim_values::{Designator, Memory};
 
 /// What a sub-message found on the dates of its period.
@@ -20,19 +19,6 @@ pub struct FindingLine {
     pub action: ActionIdentifier,
     pub designator: Designator,
     pub finding: Finding,
-}
-
-/// The identifier of an action.
-pub(crate) fn identifier(action: &Action) -> ActionIdentifier
-    ensures { result ≡ identifier_of action.now }
-{
-    match action {
-        Action::New(_) => ActionIdentifier::New,
-        Action::Cnl => ActionIdentifier::Cnl,
-        Action::Rpl(_) => ActionIdentifier::Rpl,
-        Action::Eqt(_) => ActionIdentifier::Eqt,
-        Action::Tim(_) => ActionIdentifier::Tim,
-    }
 }
 
 // Adds the lines of the sub-messages of one message, the first of which has this number.
@@ -52,7 +38,7 @@ fn push_subs(
             lines.push(FindingLine {
                 reference: *reference,
                 sub: number,
-                action: identifier(&sub.action),
+                action: sub.action.identifier(),
                 designator: sub.designator,
                 finding: *finding,
             })?;
