@@ -1,17 +1,19 @@
 -- What a sink has taken, put by put: a prefix of the bytes, up to a rest that shrinks. A rest can
 -- be taken in parts, and more bytes after both change nothing.
-use Rattle.std.proofs.Common.{◌≡◌, ℕ, zero, suc, ◌+◌, ◌-◌, ◌<◌, ◌≤◌, List, [], ◌∷◌, ◌++◌, length, replicate, take, drop, set, Option, Some, None, Result, Ok, Err, OnOk, OnErr, append_assoc, refl, sym, ap, subst, ◌∙◌, arith}
+use Rattle.std.proofs.Common.{◌≡◌, ℕ, zero, suc, ◌+◌, ◌-◌, ◌%◌, ◌^◌, ◌<◌, ◌≤◌, List, [], ◌∷◌, ◌++◌, length, replicate, take, drop, set, Option, Some, None, Result, Ok, Err, OnOk, OnErr, append_assoc, refl, sym, ap, subst, true≢false, ◌∙◌, arith}
 use Rattle.std.specs.List.{flat_map}
+use Rattle.std.specs.Result.{IsErr}
 use Rattle.std.proofs.lemmas.Grind.{common_steps}
 use Rattle.std.proofs.lemmas.List.{take-append-drop, take_more_set}
 use Rattle.std.proofs.lemmas.Slice.{take-put_mid, drop-put_mid}
 use borrow.Rule.Slice.PartMut.{put_mid}
 use Rattle.std.specs.Io.KnownBytes.{Appends, Keeps}
+use Rattle.ssim_records.specs.Device.{Writer}
 use Rattle.ssim_records.specs.Frames.{fill}
 use Rattle.ssim_records.specs.Record.{written}
 use Rattle.ssim_records.specs.declared.record.Record.{Record}
 use Rattle.ssim_base.specs.Export.{line, section_bytes}
-use Rattle.ssim_base.specs.Sinks.{TakesUpTo, TakesPrefix}
+use Rattle.ssim_base.specs.Sinks.{Breaks, Grows, GrowsUpTo, Puts, PutsUpTo, TakesPrefix, TakesUpTo}
 
 pub nothing_after : (xs : List ℕ) → xs ++ [] ≡ xs
 nothing_after [] = refl
@@ -48,23 +50,6 @@ all_taken bytes t u h = subst (λ (bs : List ℕ). Appends t u bs) (sym (h.1 ∙
 pub taken_all : (bytes : List ℕ) (t u : Option (List ℕ)) → Appends t u bytes → TakesUpTo bytes [] t u
 taken_all bytes t u h = (bytes, sym (nothing_after bytes), h)
 
--- what is put next, and the rest of it
-next_taken : (h x rest kept whole : List ℕ) (t u : Option (List ℕ)) → whole ≡ x ++ rest → TakesUpTo (h ++ x) kept t u → TakesUpTo (h ++ whole) (kept ++ rest) t u
-next_taken h x rest kept whole t u split put =
-    subst (λ (bs : List ℕ). TakesUpTo bs (kept ++ rest) t u) (append_assoc h x rest ∙ ap (λ (bs : List ℕ). h ++ bs) (sym split)) (more (h ++ x) kept rest t u put)
-
--- of all that is to be put, a part more is
-pub step : (all h x rest kept whole : List ℕ) (t u v : Option (List ℕ)) → whole ≡ x ++ rest → TakesUpTo all (h ++ whole) t u → TakesUpTo (h ++ x) kept u v → TakesUpTo all (kept ++ rest) t v
-step all h x rest kept whole t u v split before put = then all (h ++ whole) (kept ++ rest) t u v before (next_taken h x rest kept whole u v split put)
-
--- the sink failed during the next part
-pub halt : (all h x rest whole : List ℕ) (t u v : Option (List ℕ)) → whole ≡ x ++ rest → TakesUpTo all (h ++ whole) t u → TakesPrefix (h ++ x) u v → TakesPrefix all t v
-halt all h x rest whole t u v split before put = (put.0 ++ rest, step all h x rest put.0 whole t u v split before put.1)
-
--- nothing is left
-pub finish : (all h : List ℕ) (t u : Option (List ℕ)) → TakesUpTo all (h ++ []) t u → TakesUpTo all h t u
-finish all h t u before = subst (λ (bs : List ℕ). TakesUpTo all bs t u) (nothing_after h) before
-
 -- a prefix of more bytes
 pub front_more : (a x whole : List ℕ) (t u : Option (List ℕ)) → whole ≡ a ++ x → TakesPrefix a t u → TakesPrefix whole t u
 front_more a x whole t u split h = subst (λ (bs : List ℕ). TakesPrefix bs t u) (sym split) (h.0 ++ x, more a h.0 x t u h.1)
@@ -73,16 +58,137 @@ front_more a x whole t u split h = subst (λ (bs : List ℕ). TakesPrefix bs t u
 pub then_front : (a b : List ℕ) (t u v : Option (List ℕ)) → TakesUpTo a b t u → TakesPrefix b u v → TakesPrefix a t v
 then_front a b t u v h k = (k.0, then a b k.0 t u v h k.1)
 
--- one more part is put, and it was the last
-pub step_last : (h x y kept last : List ℕ) (t u v : Option (List ℕ)) → TakesUpTo (h ++ x) kept t u → TakesUpTo (kept ++ y) last u v → TakesUpTo (h ++ (x ++ y)) last t v
-step_last h x y kept last t u v one two = then (h ++ (x ++ y)) (kept ++ y) last t u v (next_taken h x y kept (x ++ y) t u refl one) two
-
-pub halt_last : (h x y kept : List ℕ) (t u v : Option (List ℕ)) → TakesUpTo (h ++ x) kept t u → TakesPrefix (kept ++ y) u v → TakesPrefix (h ++ (x ++ y)) t v
-halt_last h x y kept t u v one two = then_front (h ++ (x ++ y)) (kept ++ y) t u v (next_taken h x y kept (x ++ y) t u refl one) two
-
 -- what a put took of a slice
 pub front_taken : (n : ℕ) (bytes rest : List ℕ) (t u : Option (List ℕ)) → rest ≡ drop n bytes → Appends t u (take n bytes) → TakesUpTo bytes rest t u
 front_taken n bytes rest t u is h = (take n bytes, sym (take-append-drop n bytes) ∙ ap (λ (bs : List ℕ). take n bytes ++ bs) (sym is), h)
+
+-- ---- puts: what a sink took, and how many puts failed
+
+-- nothing is put
+pub none_put : (bytes : List ℕ) (t : Writer) → GrowsUpTo bytes bytes t t
+none_put bytes t = record { taken = start bytes t.taken; failures = refl; device = refl }
+
+-- all bytes are taken, and none are left
+pub all_put : (bytes : List ℕ) (t u : Writer) → Grows bytes t u → GrowsUpTo bytes [] t u
+all_put bytes t u h =
+    record {
+      taken = taken_all bytes t.taken u.taken h.taken;
+      failures = h.failures;
+      device = h.device;
+    }
+
+-- more bytes are held after the others
+pub held_more : (a b x : List ℕ) (t u : Writer) → GrowsUpTo a b t u → GrowsUpTo (a ++ x) (b ++ x) t u
+held_more a b x t u h =
+    record {
+      taken = more a b x t.taken u.taken h.taken;
+      failures = h.failures;
+      device = h.device;
+    }
+
+-- more bytes were to be put after those at which a put failed
+pub broken_more : (a x : List ℕ) (t u : Writer) → Breaks a t u → Breaks (a ++ x) t u
+broken_more a x t u h =
+    record {
+      taken = front_more a x (a ++ x) t.taken u.taken refl h.taken;
+      failures = h.failures;
+      device = h.device;
+    }
+
+-- a put failed, and the result is an error
+pub fails : {A E : Type 0} (bytes held : List ℕ) (t u : Writer) (result : Result A E) → IsErr result
+    → Breaks bytes t u → PutsUpTo bytes held t u result
+fails bytes held t u (Ok x) err broken = absurd (true≢false (sym err))
+fails bytes held t u (Err e) err broken = broken
+
+pub all_fail : {A E : Type 0} (bytes : List ℕ) (t u : Writer) (result : Result A E) → IsErr result
+    → Breaks bytes t u → Puts bytes t u result
+all_fail bytes t u (Ok x) err broken = absurd (true≢false (sym err))
+all_fail bytes t u (Err e) err broken = broken
+
+-- some bytes were put, and then the rest is
+pub puts_then : {A E : Type 0} (a b held : List ℕ) (t u v : Writer) (result : Result A E)
+    → GrowsUpTo a b t u → PutsUpTo b held u v result → PutsUpTo a held t v result
+puts_then a b held t u v (Ok x) h k =
+    record {
+      taken = then a b held t.taken u.taken v.taken h.taken k.taken;
+      failures = k.failures ∙ h.failures;
+      device = k.device ∙ h.device;
+    }
+puts_then a b held t u v (Err e) h k =
+    record {
+      taken = then_front a b t.taken u.taken v.taken h.taken k.taken;
+      failures = k.failures ∙ ap (λ n. (n + 1) % 2 ^ 64) h.failures;
+      device = k.device ∙ h.device;
+    }
+
+-- some bytes were put, and then all that the buffer holds is
+pub puts_all : {A E : Type 0} (a b : List ℕ) (t u v : Writer) (result : Result A E)
+    → GrowsUpTo a b t u → Puts b u v result → Puts a t v result
+puts_all a b t u v (Ok x) h k =
+    let done : Result (Unit {0}) (Unit {0}) = Ok tt in
+    let both = puts_then a b [] t u v done h (all_put b u v k) in
+    record {
+      taken = all_taken a t.taken v.taken both.taken;
+      failures = both.failures;
+      device = both.device;
+    }
+puts_all a b t u v (Err e) h k =
+    let failed : Result (Unit {0}) (Unit {0}) = Err tt in
+    puts_then a b [] t u v failed h k
+
+-- ---- room is made in the buffer, and then bytes are held after what it holds
+
+module _ (block bytes made : List ℕ) (t u : Writer) where
+  pub not_held : {A E : Type 0} (result : Result A E) → IsErr result → Breaks block t u
+      → PutsUpTo (block ++ bytes) made t u result
+  not_held result err broken =
+      fails (block ++ bytes) made t u result err (broken_more block bytes t u broken)
+
+  pub held_after : (held : List ℕ) → held ≡ made ++ bytes → GrowsUpTo block made t u
+      → GrowsUpTo (block ++ bytes) held t u
+  held_after held is put =
+      subst (λ (kept : List ℕ). GrowsUpTo (block ++ bytes) kept t u) (sym is)
+      (held_more block made bytes t u put)
+
+-- ---- a part and the rest, after the bytes that the buffer holds
+
+module _ (h x rest : List ℕ) (t u : Writer) where
+  pub part_put : (kept : List ℕ) → GrowsUpTo (h ++ x) kept t u
+      → GrowsUpTo (h ++ (x ++ rest)) (kept ++ rest) t u
+  part_put kept put =
+      subst (λ (bs : List ℕ). GrowsUpTo bs (kept ++ rest) t u) (append_assoc h x rest)
+      (held_more (h ++ x) kept rest t u put)
+
+  pub part_fails : Breaks (h ++ x) t u → Breaks (h ++ (x ++ rest)) t u
+  part_fails put =
+      subst (λ (bs : List ℕ). Breaks bs t u) (append_assoc h x rest)
+      (broken_more (h ++ x) rest t u put)
+
+  pub part_then : {A E : Type 0} (kept held : List ℕ) (v : Writer) (result : Result A E)
+      → GrowsUpTo (h ++ x) kept t u → PutsUpTo (kept ++ rest) held u v result
+      → PutsUpTo (h ++ (x ++ rest)) held t v result
+  part_then kept held v result put later =
+      puts_then (h ++ (x ++ rest)) (kept ++ rest) held t u v result (part_put kept put) later
+
+  -- a put failed within the rest
+  pub then_fails : (kept : List ℕ) (v : Writer) → GrowsUpTo (h ++ x) kept t u
+      → Breaks (kept ++ rest) u v → Breaks (h ++ (x ++ rest)) t v
+  then_fails kept v put broken =
+      let failed : Result (Unit {0}) (Unit {0}) = Err tt in
+      part_then kept [] v failed put broken
+
+-- two texts were taken, one after the other
+pub grows_then : (a b : List ℕ) (t u v : Writer) → Grows a t u → Grows b u v
+    → GrowsUpTo (a ++ b) [] t v
+grows_then a b t u v h k =
+    let done : Result (Unit {0}) (Unit {0}) = Ok tt in
+    part_then [] a b t u [] [] v done (all_put a t u h) (all_put b u v k)
+
+-- nothing is left to be put
+pub part_none : (h : List ℕ) (t : Writer) → GrowsUpTo (h ++ []) h t t
+part_none h t =
+    subst (λ (bs : List ℕ). GrowsUpTo bs h t t) (sym (nothing_after h)) (none_put h t)
 
 -- ---- results
 
@@ -117,36 +223,10 @@ pub fill_more : (n : ℕ) → 0 < n → flat_map line (replicate n fill) ≡ lin
 fill_more zero some = absurd (omega arith)
 fill_more (suc n) some = let same : suc n - 1 ≡ n = omega arith in ap (λ (k : ℕ). line fill ++ flat_map line (replicate k fill)) (sym same)
 
+pub no_fill : (n : ℕ) → n ≤ 0 → flat_map line (replicate n fill) ≡ []
+no_fill zero none = refl
+no_fill (suc n) none = absurd (omega arith)
+
 -- a section of one record has four of fill
 pub one_section : (one : Record) → section_bytes (one ∷ []) ≡ line (written one) ++ flat_map line (replicate 4 fill)
 one_section one = ap (λ (bs : List ℕ). bs ++ flat_map line (replicate 4 fill)) (nothing_after (line (written one)))
-
--- ---- four sections, one after another, into a block that is empty at first
-
-module _ (all s1 s2 s3 s4 h0 : List ℕ) (t0 : Option (List ℕ)) (none : h0 ≡ []) (split : all ≡ s1 ++ (s2 ++ (s3 ++ (s4 ++ [])))) where
-  begin : TakesUpTo all (h0 ++ all) t0 t0
-  begin = subst (λ (h : List ℕ). TakesUpTo all (h ++ all) t0 t0) (sym none) (start all t0)
-
-  pub break_1 : (t1 : Option (List ℕ)) → TakesPrefix (h0 ++ s1) t0 t1 → TakesPrefix all t0 t1
-  break_1 t1 put = halt all h0 s1 (s2 ++ (s3 ++ (s4 ++ []))) all t0 t0 t1 split begin put
-
-  after_1 : (h1 : List ℕ) (t1 : Option (List ℕ)) → TakesUpTo (h0 ++ s1) h1 t0 t1 → TakesUpTo all (h1 ++ (s2 ++ (s3 ++ (s4 ++ [])))) t0 t1
-  after_1 h1 t1 put = step all h0 s1 (s2 ++ (s3 ++ (s4 ++ []))) h1 all t0 t0 t1 split begin put
-
-  pub break_2 : (h1 : List ℕ) (t1 t2 : Option (List ℕ)) → TakesUpTo (h0 ++ s1) h1 t0 t1 → TakesPrefix (h1 ++ s2) t1 t2 → TakesPrefix all t0 t2
-  break_2 h1 t1 t2 one put = halt all h1 s2 (s3 ++ (s4 ++ [])) (s2 ++ (s3 ++ (s4 ++ []))) t0 t1 t2 refl (after_1 h1 t1 one) put
-
-  after_2 : (h1 h2 : List ℕ) (t1 t2 : Option (List ℕ)) → TakesUpTo (h0 ++ s1) h1 t0 t1 → TakesUpTo (h1 ++ s2) h2 t1 t2 → TakesUpTo all (h2 ++ (s3 ++ (s4 ++ []))) t0 t2
-  after_2 h1 h2 t1 t2 one put = step all h1 s2 (s3 ++ (s4 ++ [])) h2 (s2 ++ (s3 ++ (s4 ++ []))) t0 t1 t2 refl (after_1 h1 t1 one) put
-
-  pub break_3 : (h1 h2 : List ℕ) (t1 t2 t3 : Option (List ℕ)) → TakesUpTo (h0 ++ s1) h1 t0 t1 → TakesUpTo (h1 ++ s2) h2 t1 t2 → TakesPrefix (h2 ++ s3) t2 t3 → TakesPrefix all t0 t3
-  break_3 h1 h2 t1 t2 t3 one two put = halt all h2 s3 (s4 ++ []) (s3 ++ (s4 ++ [])) t0 t2 t3 refl (after_2 h1 h2 t1 t2 one two) put
-
-  after_3 : (h1 h2 h3 : List ℕ) (t1 t2 t3 : Option (List ℕ)) → TakesUpTo (h0 ++ s1) h1 t0 t1 → TakesUpTo (h1 ++ s2) h2 t1 t2 → TakesUpTo (h2 ++ s3) h3 t2 t3 → TakesUpTo all (h3 ++ (s4 ++ [])) t0 t3
-  after_3 h1 h2 h3 t1 t2 t3 one two put = step all h2 s3 (s4 ++ []) h3 (s3 ++ (s4 ++ [])) t0 t2 t3 refl (after_2 h1 h2 t1 t2 one two) put
-
-  pub break_4 : (h1 h2 h3 : List ℕ) (t1 t2 t3 t4 : Option (List ℕ)) → TakesUpTo (h0 ++ s1) h1 t0 t1 → TakesUpTo (h1 ++ s2) h2 t1 t2 → TakesUpTo (h2 ++ s3) h3 t2 t3 → TakesPrefix (h3 ++ s4) t3 t4 → TakesPrefix all t0 t4
-  break_4 h1 h2 h3 t1 t2 t3 t4 one two three put = halt all h3 s4 [] (s4 ++ []) t0 t3 t4 refl (after_3 h1 h2 h3 t1 t2 t3 one two three) put
-
-  pub after_4 : (h1 h2 h3 h4 : List ℕ) (t1 t2 t3 t4 : Option (List ℕ)) → TakesUpTo (h0 ++ s1) h1 t0 t1 → TakesUpTo (h1 ++ s2) h2 t1 t2 → TakesUpTo (h2 ++ s3) h3 t2 t3 → TakesUpTo (h3 ++ s4) h4 t3 t4 → TakesUpTo all h4 t0 t4
-  after_4 h1 h2 h3 h4 t1 t2 t3 t4 one two three put = finish all h4 t0 t4 (step all h3 s4 [] h4 (s4 ++ []) t0 t3 t4 refl (after_3 h1 h2 h3 t1 t2 t3 one two three) put)

@@ -9,7 +9,8 @@ use Rattle.ssim_periods.specs.Pieces.{pieces_of}
 use Rattle.ssim_records.specs.Carrier.{CarrierFields}
 use Rattle.ssim_records.specs.Frames.{fill}
 use Rattle.ssim_records.specs.Header.{HeaderFields}
-use Rattle.ssim_records.specs.Leg.{Name}
+use Rattle.ssim_records.specs.Leg.{Name, exported_leg}
+use Rattle.ssim_records.specs.Segment.{exported_segment}
 use Rattle.ssim_records.specs.Trailer.{TrailerFields}
 use Rattle.ssim_records.specs.Record.{written}
 use Rattle.ssim_records.specs.declared.record.Record.{Record}
@@ -59,8 +60,7 @@ pieces days = pieces_of same_itinerary [] days
 
 -- the segment record of a tail; its service type is the leg's, column 14
 abbrev pub tail_record : Name → ℕ → List ℕ → Record
-tail_record name service tail =
-    Segment (record { name = name; service = service; tail = tail; overflow = 32; serial = 0 })
+tail_record name service tail = Segment (exported_segment name service tail 0)
 
 -- the record of a leg, followed by the records of its tails
 abbrev pub leg_records : List ℕ → FlightNumber → ℕ → DayRange → LegValue → List Record
@@ -71,16 +71,7 @@ leg_records airline flight variation period l =
       variation = variation;
       sequence = l.sequence;
     } in
-    Leg (record {
-      name = name;
-      first = period.first;
-      last = Some period.last;
-      days = period.days;
-      rate = 32;
-      columns = l.columns;
-      overflow = 32;
-      serial = 0;
-    })
+    Leg (exported_leg name period l.columns 0)
     ∷ map (tail_record name (slice_index l.columns 0)) l.tails
 
 -- the records of a piece: its legs by sequence, each followed by its tails

@@ -15,7 +15,8 @@
 //! - [`resolve`] and `BaseFrame::resolve`: resolve a message against a base: its reference with its
 //!   year, its sub-messages with full dates, or a [`ResolveFault`].
 //! - [`OutputBuffer`]: bytes for a sink, or a [`WriteFault`]. [`put_record`], [`put_leg`],
-//!   [`put_segment`], [`put_fill`] and [`put_bytes`] fill it, and [`flush`] empties it.
+//!   [`put_segment`], [`put_fill`] and [`put_bytes`] fill it, and [`flush`] empties it. [`put_all`]
+//!   puts bytes without it.
 //! - [`Place`]: what a fault names, such as a record, a column, a line, a sub-message or a flight.
 //! - [`laws`]: the first invalid record is named; a base and its export read back; saved records
 //!   read back; a message has one outcome.
@@ -46,7 +47,7 @@ pub use data_set::saved_lines::{SavedFault, read_saved};
 pub use fault::{BaseFault, BaseRefusal};
 pub use note::Note;
 pub use output_buffer::{
-    OutputBuffer, WriteFault, flush, put_bytes, put_fill, put_leg, put_record, put_segment,
+    OutputBuffer, WriteFault, flush, put_all, put_bytes, put_fill, put_leg, put_record, put_segment,
 };
 pub use place::Place;
 pub use problems::Problems;

@@ -1,14 +1,14 @@
 //! A buffer of lines for a sink.
 
-ghost use Rattle.std.specs.Prelude.{◌≡◌, ◌↔◌, ◌≤◌, ◌<◌, ◌+◌, ◌++◌, [], Some, length, replicate, slice_index, IsTrue, OnOk, OnErr};
+ghost use Rattle.std.specs.Prelude.{◌≡◌, ◌↔◌, ◌≤◌, ◌<◌, ◌+◌, ◌++◌, [], length, replicate, slice_index, IsTrue};
+ghost use Rattle.std.specs.Prelude.{OnOk, OnErr};
 ghost use Rattle.std.specs.List.{flat_map};
-ghost use Rattle.std.specs.Io.KnownBytes.{Appends};
 ghost use Rattle.ssim_records.specs.Frames.{fill};
-ghost use Rattle.ssim_records.specs.Leg.{AreLegColumns, written_leg};
+ghost use Rattle.ssim_records.specs.Leg.{AreLegColumns, exported_leg, written_leg};
 ghost use Rattle.ssim_records.specs.Record.{written};
-ghost use Rattle.ssim_records.specs.Segment.{IsTail, written_segment};
+ghost use Rattle.ssim_records.specs.Segment.{IsTail, exported_segment, written_segment};
 ghost use Rattle.ssim_base.specs.Export.{line};
-ghost use Rattle.ssim_base.specs.Sinks.{CountsFault, TakesPrefix, TakesUpTo};
+ghost use Rattle.ssim_base.specs.Sinks.{Puts, PutsUpTo};
 
 use ssim_records::{LegColumns, NameText, PeriodText, Record, SegmentTail, Sink, write_over};
 use std::marker::Model;
@@ -112,16 +112,7 @@ impl OutputBuffer {
         requires serial { serial < 1000000 }
         requires room { length self.old + 201 ≤ 64320 }
         ensures value { self.new ≡ self.old
-            ++ line (written_leg (record {
-              name = name.now;
-              first = period.now.first;
-              last = Some period.now.last;
-              days = period.now.days;
-              rate = 32;
-              columns = columns.now;
-              overflow = 32;
-              serial = serial;
-            })) }
+            ++ line (written_leg (exported_leg name.now period.now columns.now serial)) }
         ensures columns { AreLegColumns columns.now }
     {
         let end = self.end + 200;
@@ -140,13 +131,8 @@ impl OutputBuffer {
         requires serial { serial < 1000000 }
         requires room { length self.old + 201 ≤ 64320 }
         ensures value { self.new ≡ self.old
-            ++ line (written_segment (record {
-              name = name.now;
-              service = slice_index columns.now 0;
-              tail = tail.now;
-              overflow = 32;
-              serial = serial;
-            })) }
+            ++ line (written_segment (exported_segment name.now (slice_index columns.now 0) tail.now
+            serial)) }
         ensures tail { IsTail tail.now }
     {
         let end = self.end + 200;
@@ -169,11 +155,8 @@ impl OutputBuffer {
 }
 
 /// Puts all of the bytes into the sink, however many it takes at a time.
-fn put_all<W: Sink>(out: &mut W, bytes: &[u8]) -> Result<(), WriteFault>
-    ensures ok { OnOk result (Appends (W.taken out.old) (W.taken out.new) bytes.now) }
-    ensures err { OnErr result (TakesPrefix bytes.now (W.taken out.old) (W.taken out.new)) }
-    ensures failures { CountsFault (W.failures out.old) (W.failures out.new) result }
-    ensures device { W.device out.new ≡ W.device out.old }
+pub fn put_all<W: Sink>(out: &mut W, bytes: &[u8]) -> Result<(), WriteFault>
+    ensures { Puts bytes.now (W.state out.old) (W.state out.new) result }
 {
     let mut rest = bytes;
     while !rest.is_empty() {
@@ -188,12 +171,9 @@ fn put_all<W: Sink>(out: &mut W, bytes: &[u8]) -> Result<(), WriteFault>
 /// Puts the bytes of the buffer into the sink, and empties the buffer. After a 52 the buffer is
 /// unchanged: it holds the bytes of which the sink took a prefix.
 pub fn flush<W: Sink>(out: &mut W, block: &mut OutputBuffer) -> Result<(), WriteFault>
-    ensures ok { OnOk result (Appends (W.taken out.old) (W.taken out.new) block.old) }
+    ensures puts { Puts block.old (W.state out.old) (W.state out.new) result }
     ensures empty { OnOk result (block.new ≡ []) }
-    ensures err { OnErr result (TakesPrefix block.old (W.taken out.old) (W.taken out.new)) }
     ensures unchanged { OnErr result (block.new ≡ block.old) }
-    ensures failures { CountsFault (W.failures out.old) (W.failures out.new) result }
-    ensures device { W.device out.new ≡ W.device out.old }
 {
     put_all(out, block.bytes())?;
     block.clear();
@@ -203,12 +183,9 @@ pub fn flush<W: Sink>(out: &mut W, block: &mut OutputBuffer) -> Result<(), Write
 // Makes room in the buffer for a record and LF: if there is no room, the buffer's bytes are put
 // into the sink. After a 52 the buffer is unchanged.
 fn make_room<W: Sink>(out: &mut W, block: &mut OutputBuffer) -> Result<(), WriteFault>
-    ensures ok { OnOk result (TakesUpTo block.old block.new (W.taken out.old) (W.taken out.new)) }
+    ensures puts { PutsUpTo block.old block.new (W.state out.old) (W.state out.new) result }
     ensures room { OnOk result (length block.new + 201 ≤ 64320) }
-    ensures err { OnErr result (TakesPrefix block.old (W.taken out.old) (W.taken out.new)) }
     ensures unchanged { OnErr result (block.new ≡ block.old) }
-    ensures failures { CountsFault (W.failures out.old) (W.failures out.new) result }
-    ensures device { W.device out.new ≡ W.device out.old }
 {
     if !block.has_room(201) {
         flush(out, block)?;
@@ -223,13 +200,9 @@ pub fn put_record<W: Sink>(
     block: &mut OutputBuffer,
     one: &Record,
 ) -> Result<(), WriteFault>
-    ensures ok { OnOk result (TakesUpTo (block.old ++ line (written one.now)) block.new
-        (W.taken out.old) (W.taken out.new)) }
-    ensures err { OnErr result (TakesPrefix (block.old ++ line (written one.now)) (W.taken out.old)
-        (W.taken out.new)) }
+    ensures puts { PutsUpTo (block.old ++ line (written one.now)) block.new
+        (W.state out.old) (W.state out.new) result }
     ensures unchanged { OnErr result (block.new ≡ block.old) }
-    ensures failures { CountsFault (W.failures out.old) (W.failures out.new) result }
-    ensures device { W.device out.new ≡ W.device out.old }
 {
     make_room(out, block)?;
     block.push_record(one);
@@ -246,33 +219,11 @@ pub fn put_leg<W: Sink>(
     serial: u32,
 ) -> Result<(), WriteFault>
     requires { serial < 1000000 }
-    ensures ok { OnOk result (TakesUpTo
-        (block.old ++ line (written_leg
-        (record {
-          name = name.now;
-          first = period.now.first;
-          last = Some period.now.last;
-          days = period.now.days;
-          rate = 32;
-          columns = columns.now;
-          overflow = 32;
-          serial = serial;
-        }))) block.new (W.taken out.old) (W.taken out.new)) }
+    ensures puts { PutsUpTo
+        (block.old
+        ++ line (written_leg (exported_leg name.now period.now columns.now serial))) block.new
+        (W.state out.old) (W.state out.new) result }
     ensures columns { OnOk result (AreLegColumns columns.now) }
-    ensures err { OnErr result (TakesPrefix
-        (block.old ++ line (written_leg
-        (record {
-          name = name.now;
-          first = period.now.first;
-          last = Some period.now.last;
-          days = period.now.days;
-          rate = 32;
-          columns = columns.now;
-          overflow = 32;
-          serial = serial;
-        }))) (W.taken out.old) (W.taken out.new)) }
-    ensures failures { CountsFault (W.failures out.old) (W.failures out.new) result }
-    ensures device { W.device out.new ≡ W.device out.old }
 {
     make_room(out, block)?;
     block.push_leg(name, period, columns, serial);
@@ -289,27 +240,12 @@ pub fn put_segment<W: Sink>(
     serial: u32,
 ) -> Result<(), WriteFault>
     requires { serial < 1000000 }
-    ensures ok { OnOk result (TakesUpTo
-        (block.old ++ line (written_segment
-        (record {
-          name = name.now;
-          service = slice_index columns.now 0;
-          tail = tail.now;
-          overflow = 32;
-          serial = serial;
-        }))) block.new (W.taken out.old) (W.taken out.new)) }
+    ensures puts { PutsUpTo
+        (block.old
+        ++ line (written_segment (exported_segment name.now (slice_index columns.now 0) tail.now
+        serial))) block.new
+        (W.state out.old) (W.state out.new) result }
     ensures tail { OnOk result (IsTail tail.now) }
-    ensures err { OnErr result (TakesPrefix
-        (block.old ++ line (written_segment
-        (record {
-          name = name.now;
-          service = slice_index columns.now 0;
-          tail = tail.now;
-          overflow = 32;
-          serial = serial;
-        }))) (W.taken out.old) (W.taken out.new)) }
-    ensures failures { CountsFault (W.failures out.old) (W.failures out.new) result }
-    ensures device { W.device out.new ≡ W.device out.old }
 {
     make_room(out, block)?;
     block.push_segment(name, columns, tail, serial);
@@ -324,13 +260,9 @@ pub fn put_bytes<W: Sink>(
     block: &mut OutputBuffer,
     bytes: &[u8],
 ) -> Result<(), WriteFault>
-    ensures ok { OnOk result (TakesUpTo (block.old ++ bytes.now) block.new (W.taken out.old)
-        (W.taken out.new)) }
-    ensures err { OnErr result (TakesPrefix (block.old ++ bytes.now) (W.taken out.old)
-        (W.taken out.new)) }
+    ensures puts { PutsUpTo (block.old ++ bytes.now) block.new (W.state out.old) (W.state out.new)
+        result }
     ensures unchanged { OnErr result (block.new ≡ block.old) }
-    ensures failures { CountsFault (W.failures out.old) (W.failures out.new) result }
-    ensures device { W.device out.new ≡ W.device out.old }
 {
     if block.has_room(bytes.len()) {
         block.push(bytes);
@@ -353,12 +285,8 @@ pub fn put_fill<W: Sink>(
     block: &mut OutputBuffer,
     count: usize,
 ) -> Result<(), WriteFault>
-    ensures ok { OnOk result (TakesUpTo (block.old ++ flat_map line (replicate count fill))
-        block.new (W.taken out.old) (W.taken out.new)) }
-    ensures err { OnErr result (TakesPrefix (block.old ++ flat_map line (replicate count fill))
-        (W.taken out.old) (W.taken out.new)) }
-    ensures failures { CountsFault (W.failures out.old) (W.failures out.new) result }
-    ensures device { W.device out.new ≡ W.device out.old }
+    ensures { PutsUpTo (block.old ++ flat_map line (replicate count fill)) block.new
+        (W.state out.old) (W.state out.new) result }
 {
     let mut left = count;
     while left > 0 {

@@ -204,6 +204,20 @@ leg_texts r =
 abbrev pub written_leg : LegFields → List ℕ
 written_leg r = concat (leg_texts r)
 
+-- the record of a leg in a period as an export has it: blanks for frequency rate and overflow
+abbrev pub exported_leg : Name → DayRange → List ℕ → ℕ → LegFields
+exported_leg name period columns serial =
+    record {
+      name = name;
+      first = period.first;
+      last = Some period.last;
+      days = period.days;
+      rate = 32;
+      columns = columns;
+      overflow = 32;
+      serial = serial;
+    }
+
 -- the end, if there is one, is not before the start
 abbrev pub IsEnd : ℕ → Option ℕ → Type 0
 IsEnd first last = IfSome last (λ day. (first ≤ day) × (day < day_limit))

@@ -84,6 +84,11 @@ segment_texts r =
 abbrev pub written_segment : SegmentFields → List ℕ
 written_segment r = concat (segment_texts r)
 
+-- the record of a segment as an export has it: with a blank for overflow
+abbrev pub exported_segment : Name → ℕ → List ℕ → ℕ → SegmentFields
+exported_segment name service tail serial =
+    record { name = name; service = service; tail = tail; overflow = 32; serial = serial }
+
 -- a record with this text of its name
 abbrev pub segment_of_texts : List ℕ → ℕ → List ℕ → ℕ → ℕ → List ℕ
 segment_of_texts name service tail overflow serial =

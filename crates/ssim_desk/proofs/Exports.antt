@@ -1,5 +1,6 @@
 -- The export of a schedule is the export of its timetable.
-use Rattle.std.proofs.Common.{◌≡◌, ℕ, List, Option, Result, ap, subst, ◌∙◌}
+use Rattle.std.proofs.Common.{◌≡◌, ℕ, List, Result, ap, subst, ◌∙◌}
+use Rattle.ssim_records.specs.Device.{Writer}
 use Rattle.ssim_records.specs.declared.record.Record.{Record}
 use Rattle.ssim_base.proofs.ReadingBack.{reads_back_as}
 use Rattle.ssim_base.proofs.Whole.{same_export}
@@ -19,15 +20,29 @@ module _ (days others : FlightNumber → Days) (same : (flight : FlightNumber) �
   pub same_chapter7 : (frame : Frame) → chapter7 frame days ≡ chapter7 frame others
   same_chapter7 frame = ap (result_map export_bytes) (same_export frame days others same)
 
-  module _ {W : Type 0} (taken : W → Option (List ℕ)) (failures : W → ℕ) (records : List Record) (old new : W) where
-    pub writes : WritesBase taken failures records days old new → WritesBase taken failures records others old new
-    writes (frame, has, w) = (frame, has, subst (λ (e : Result (List ℕ) ExportRefusal). Writes taken failures e old new) (same_chapter7 frame) w)
+  module _ (records : List Record) where
+    pub writes : (old new : Writer) → WritesBase records days old new
+        → WritesBase records others old new
+    writes old new (frame, has, w) = (
+      frame,
+      has,
+      subst (λ (e : Result (List ℕ) ExportRefusal). Writes e old new)
+          (same_chapter7 frame) w,
+    )
 
-    pub refuses : (fault : ExportFault) → RefusesBase taken failures records days old new fault → RefusesBase taken failures records others old new fault
-    refuses fault (frame, has, r) = (frame, has, subst (λ (e : Result (List ℕ) ExportRefusal). Refuses taken failures e old new fault) (same_chapter7 frame) r)
+    pub refuses : {W : Type 0} (state : W → Writer) (old new : W) (fault : ExportFault)
+        → RefusesBase state records days old new fault → RefusesBase state records others old new fault
+    refuses state old new fault (frame, has, r) = (
+      frame,
+      has,
+      subst (λ (e : Result (List ℕ) ExportRefusal). Refuses state e old new fault)
+          (same_chapter7 frame) r,
+    )
 
-  pub reads_back : {W : Type 0} (taken : W → Option (List ℕ)) (records : List Record) (old new : W) → ReadsBackBase taken records days old new → ReadsBackBase taken records others old new
-  reads_back taken records old new (frame, has, bytes, took, back) = (frame, has, bytes, took, reads_back_as frame days others bytes same back)
+    pub reads_back : (old new : Writer) → ReadsBackBase records days old new
+        → ReadsBackBase records others old new
+    reads_back old new (frame, has, bytes, took, back) =
+        (frame, has, bytes, took, reads_back_as frame days others bytes same back)
 
 -- The messages have acted on the timetable of the base. The schedule has the timetable that they
 -- leave.

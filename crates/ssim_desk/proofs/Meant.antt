@@ -1,9 +1,12 @@
 -- What a desk shows is what its messages mean.
 use Rattle.std.proofs.Common.{◌≡◌, ℕ, ◌<◌, IfErr, List, [], OnOk, Option, Result, Ok, Err, slice_index_or, refl, sym, ap, ◌∙◌}
 use Rattle.std.proofs.lemmas.List.Elements.{All-weaker}
+use Rattle.ssim_records.specs.Device.{Writer}
 use Rattle.ssim_periods.proofs.DayLemmas.{day_count-is}
 use Rattle.ssim_base.proofs.Calendars.{at-each_day}
 use Rattle.ssim_base.specs.BaseSeen.{BaseSeen}
+use Rattle.ssim_base.specs.Export.{ExportRefusal, Frame, chapter7}
+use Rattle.ssim_base.specs.ReadBack.{HasFrame}
 use Rattle.ssim_schedule.specs.ExportResult.{RefusesBase, WritesBase}
 use Rattle.ssim_schedule.specs.Schedule.{Flown, days_in}
 use Rattle.ssim_schedule.specs.declared.export.ExportFault.{ExportFault}
@@ -13,7 +16,7 @@ use Rattle.ssim_values.specs.Flight.{FlightNumber, IsFlight}
 use Rattle.ssim_held.specs.Entries.{AreEntries, DeskSeen, Entry, IsEntry, state_of}
 use Rattle.ssim_held.proofs.Entries.{entries-map_of}
 use Rattle.ssim_desk.specs.Desk.{WritesDesk, days_of_desk, timetable_of}
-use Rattle.ssim_desk.specs.Meaning.{Finds, HasDates, Lists, Means, Timetable, found_by, left_by}
+use Rattle.ssim_desk.specs.Meaning.{Exports, Finds, HasDates, Lists, Means, Timetable, found_by, left_by}
 use Rattle.ssim_desk.specs.internal.Changes.{IsAfter}
 use Rattle.ssim_desk.proofs.Meanings.{has_one_meaning}
 
@@ -41,16 +44,30 @@ pub legs_after : (base : BaseSeen) (entries : List Entry) (schedule : Flown) →
 legs_after base entries schedule is flight exists day within =
     ap (λ (days : List Legs). slice_index_or days day []) (is.shows flight exists) ∙ at-each_day (left_by base entries flight) day (rw day_count-is within)
 
+-- a timetable in the frame of the desk's base has this export
+exported : (desk : DeskSeen) → AreEntries desk.base.records desk.held → (frame : Frame)
+    → HasFrame frame desk.base.records → (export : Result (List ℕ) ExportRefusal)
+    → chapter7 frame (days_of_desk desk) ≡ export → Exports (state_of desk) export
+exported desk entries frame has export is =
+    record {
+      frame = frame;
+      has_frame = has;
+      timetable = timetable_of desk;
+      means = has_meaning desk entries;
+      exported = sym is;
+    }
+
 -- what an export in the frame of a base leaves is what the export of the desk leaves
-pub writes_desk : {W : Type 0} (taken : W → Option (List ℕ)) (failures : W → ℕ) (desk : DeskSeen) (old new : W) (r : Result (Unit {0}) ExportFault) → AreEntries desk.base.records desk.held
-    → OnOk r (WritesBase taken failures desk.base.records (days_of_desk desk) old new) → IfErr r (RefusesBase taken failures desk.base.records (days_of_desk desk) old new)
-    → WritesDesk taken (state_of desk) old new r
-writes_desk taken failures desk old new (Ok x) entries w e =
-    (w.2.0, record { frame = w.0; has_frame = w.1; timetable = timetable_of desk; means = has_meaning desk entries; exported = sym w.2.1 }, w.2.2)
-writes_desk taken failures desk old new (Err (Variations flight)) entries w e =
-    record { frame = e.0; has_frame = e.1; timetable = timetable_of desk; means = has_meaning desk entries; exported = sym e.2.0 }
-writes_desk taken failures desk old new (Err Records) entries w e =
-    record { frame = e.0; has_frame = e.1; timetable = timetable_of desk; means = has_meaning desk entries; exported = sym e.2.0 }
-writes_desk taken failures desk old new (Err WriteFault) entries w e =
-    (e.2.0, record { frame = e.0; has_frame = e.1; timetable = timetable_of desk; means = has_meaning desk entries; exported = sym e.2.1 }, e.2.2)
-writes_desk taken failures desk old new (Err Memory) entries w e = tt
+pub writes_desk : {W : Type 0} (state : W → Writer) (desk : DeskSeen) (old new : W)
+    (r : Result (Unit {0}) ExportFault) → AreEntries desk.base.records desk.held
+    → OnOk r (WritesBase desk.base.records (days_of_desk desk) (state old) (state new))
+    → IfErr r (RefusesBase state desk.base.records (days_of_desk desk) old new)
+    → WritesDesk (state_of desk) (state old) (state new) r
+writes_desk state desk old new (Ok x) entries w e =
+    (w.2.0, exported desk entries w.0 w.1 _ w.2.1, w.2.2)
+writes_desk state desk old new (Err (Variations flight)) entries w e =
+    exported desk entries e.0 e.1 _ e.2.0
+writes_desk state desk old new (Err Records) entries w e = exported desk entries e.0 e.1 _ e.2.0
+writes_desk state desk old new (Err WriteFault) entries w e =
+    (e.2.0, exported desk entries e.0 e.1 _ e.2.1, e.2.2)
+writes_desk state desk old new (Err Memory) entries w e = tt

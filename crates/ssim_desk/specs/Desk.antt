@@ -2,10 +2,11 @@
 use Rattle.std.specs.Prelude.{◌≡◌, ℕ, ◌+◌, ◌*◌, ◌≤◌, Bool, ◌&&◌, ◌||◌, nat_eq, IsTrue, List, [], ◌∷◌, ◌++◌}
 use Rattle.std.specs.Prelude.{length, take, slice_get, Contains, None}
 use Rattle.std.specs.Prelude.{Option, Some, Result, Ok, Err}
-use Rattle.std.specs.{FinMap.get, Io.KnownBytes.Appends, List.{count_by, flat_map, list_any}}
+use Rattle.std.specs.{FinMap.get, List.{count_by, flat_map, list_any}}
 use Rattle.ssim_periods.specs.Days.{each_day}
 use Rattle.ssim_base.specs.BaseSeen.{BaseSeen, is_leg_of}
-use Rattle.ssim_base.specs.Sinks.{TakesPrefix}
+use Rattle.ssim_records.specs.Device.{Writer}
+use Rattle.ssim_base.specs.Sinks.{Breaks, Grows}
 use Rattle.ssim_base.specs.Stations.{Row}
 use Rattle.ssim_base.specs.Timetable.{Days, Legs, same_flight}
 use Rattle.ssim_base.specs.Export as exported
@@ -106,16 +107,14 @@ finding_lines desk = entry_lines desk.held (found_by desk.base desk.held)
 -- What an export of a desk leaves. The sink has taken the bytes of the desk's export; or the desk's
 -- export is this refusal, 50 or 51; or the sink failed, and has taken a prefix of the bytes of the
 -- desk's export; or memory ran out.
-abbrev pub WritesDesk : {W : Type 0} → (W → Option (List ℕ)) → DeskState → W → W
-    → Result (Unit {0}) ExportFault → Type 0
-WritesDesk taken desk old new (Ok x) =
-    (bytes : List ℕ) × Exports desk (Ok bytes) × Appends (taken old) (taken new) bytes
-WritesDesk taken desk old new (Err (export.Variations flight)) =
+abbrev pub WritesDesk : DeskState → Writer → Writer → Result (Unit {0}) ExportFault → Type 0
+WritesDesk desk old new (Ok x) = (bytes : List ℕ) × Exports desk (Ok bytes) × Grows bytes old new
+WritesDesk desk old new (Err (export.Variations flight)) =
     Exports desk (Err (exported.Variations flight))
-WritesDesk taken desk old new (Err export.Records) = Exports desk (Err exported.Records)
-WritesDesk taken desk old new (Err export.WriteFault) =
-    (bytes : List ℕ) × Exports desk (Ok bytes) × TakesPrefix bytes (taken old) (taken new)
-WritesDesk taken desk old new (Err export.Memory) = Unit {0}
+WritesDesk desk old new (Err export.Records) = Exports desk (Err exported.Records)
+WritesDesk desk old new (Err export.WriteFault) =
+    (bytes : List ℕ) × Exports desk (Ok bytes) × Breaks bytes old new
+WritesDesk desk old new (Err export.Memory) = Unit {0}
 
 -- ---- cuts: the days at which the dates of a flight are divided
 

@@ -2,13 +2,12 @@
 
 ghost use Rattle.std.specs.Prelude.{◌≡◌, ◌⊎◌, ◌++◌, ◌<◌, ◌≤◌, ℕ, All, Contains, [], ◌∷◌, false};
 ghost use Rattle.std.specs.Prelude.{length, take, drop, Ok, IfOk, IfErr, OnErr, OnOk};
-ghost use Rattle.std.specs.Io.KnownBytes.{Appends};
 ghost use Rattle.std.specs.List.Sorted.{IsStrictlyIncreasing};
 ghost use Rattle.ssim_values.specs.Calendar.{weekday};
 ghost use Rattle.ssim_base.specs.Reading.{Came};
 ghost use Rattle.ssim_schedule.specs.ExportResult.{ReadsBackBase, RefusesBase, WritesBase};
 ghost use Rattle.ssim_schedule.specs.Schedule.{cuts_in};
-ghost use Rattle.ssim_base.specs.Sinks.{CountsFault, TakesPrefix};
+ghost use Rattle.ssim_base.specs.Sinks.{Puts};
 ghost use Rattle.ssim_held.specs.File.{CanBeSaved, desk_file};
 ghost use Rattle.ssim_held.specs.Opening.{FailsAs, NeverEnds, Opens, RefusesFile};
 ghost use Rattle.ssim_held.specs.Entries.{AreEntries, AreRising, IsEntry, map_of, state_of};
@@ -237,14 +236,14 @@ impl Desk {
     /// and 90 if there is no memory. None of them writes a byte. 52: the sink failed; it has taken
     /// a prefix of the export.
     pub fn export<W: Sink>(&self, out: &mut W) -> Result<(), ExportFault>
-        ensures ok { OnOk result (WritesBase W.taken W.failures self.now.seen.base.records
-            (days_of_desk self.now.seen) out.old out.new) }
-        ensures err { IfErr result (λ fault. RefusesBase W.taken W.failures
+        ensures ok { OnOk result (WritesBase self.now.seen.base.records
+            (days_of_desk self.now.seen) (W.state out.old) (W.state out.new)) }
+        ensures err { IfErr result (λ fault. RefusesBase W.state
             self.now.seen.base.records (days_of_desk self.now.seen) out.old out.new fault) }
-        ensures device { W.device out.new ≡ W.device out.old }
-        ensures reads_back { OnOk result (ReadsBackBase W.taken self.now.seen.base.records
-            (days_of_desk self.now.seen) out.old out.new) }
-        ensures exports { WritesDesk W.taken (state_of self.now.seen) out.old out.new result }
+        ensures reads_back { OnOk result (ReadsBackBase self.now.seen.base.records
+            (days_of_desk self.now.seen) (W.state out.old) (W.state out.new)) }
+        ensures exports { WritesDesk (state_of self.now.seen) (W.state out.old) (W.state out.new)
+            result }
     {
         // No effect at run time. The proof reads from this use that the messages are those of a
         // desk.
@@ -257,13 +256,9 @@ impl Desk {
     ///
     /// Fails only if the sink fails, with 52. The sink has then taken a prefix of the file.
     pub fn save<W: Sink>(&self, out: &mut W) -> Result<(), WriteFault>
-        ensures ok { OnOk result (Appends (W.taken out.old) (W.taken out.new)
-            (desk_file self.now.seen.base self.now.seen.held)) }
+        ensures puts { Puts (desk_file self.now.seen.base self.now.seen.held) (W.state out.old)
+            (W.state out.new) result }
         ensures can_be_saved { OnOk result (CanBeSaved self.now.seen.base self.now.seen.held) }
-        ensures err { OnErr result (TakesPrefix (desk_file self.now.seen.base self.now.seen.held)
-            (W.taken out.old) (W.taken out.new)) }
-        ensures failures { CountsFault (W.failures out.old) (W.failures out.new) result }
-        ensures device { W.device out.new ≡ W.device out.old }
     {
         self.holdings.save(out)
     }

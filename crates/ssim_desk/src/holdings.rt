@@ -4,13 +4,12 @@ ghost use Rattle.std.specs.Prelude.{◌≡◌, ◌≤◌, ◌++◌, [], ◌∷�
 ghost use Rattle.std.specs.Prelude.{OnErr, OnOk};
 ghost use Rattle.std.specs.Bool.{OnFalse};
 ghost use Rattle.std.specs.FinMap.{contains_key, remove};
-ghost use Rattle.std.specs.Io.KnownBytes.{Appends};
 ghost use Rattle.ssim_base.specs.BaseSeen.{base_with};
 ghost use Rattle.ssim_base.specs.Reading.{Came};
 ghost use Rattle.ssim_schedule.specs.Dates.{AgreeBetween};
 ghost use Rattle.ssim_schedule.specs.FlightPieces.{divided_among, divided_flights};
 ghost use Rattle.ssim_schedule.specs.ExportResult.{ReadsBackBase, RefusesBase, WritesBase};
-ghost use Rattle.ssim_base.specs.Sinks.{CountsFault, TakesPrefix};
+ghost use Rattle.ssim_base.specs.Sinks.{Puts};
 ghost use Rattle.ssim_held.specs.File.{CanBeSaved, desk_file};
 ghost use Rattle.ssim_text.specs.Message.{MessageValue};
 ghost use Rattle.ssim_text.specs.declared.reference.Reference.{Reference};
@@ -190,13 +189,9 @@ impl Holdings {
     ///
     /// Fails only if the sink fails, with 52. The sink has then taken a prefix of the file.
     pub fn save<W: Sink>(&self, out: &mut W) -> Result<(), WriteFault>
-        ensures ok { OnOk result
-            (Appends (W.taken out.old) (W.taken out.new) (desk_file self.now.base self.now.held)) }
+        ensures puts { Puts (desk_file self.now.base self.now.held) (W.state out.old)
+            (W.state out.new) result }
         ensures can_be_saved { OnOk result (CanBeSaved self.now.base self.now.held) }
-        ensures err { OnErr result (TakesPrefix (desk_file self.now.base self.now.held)
-            (W.taken out.old) (W.taken out.new)) }
-        ensures failures { CountsFault (W.failures out.old) (W.failures out.new) result }
-        ensures device { W.device out.new ≡ W.device out.old }
     {
         put_desk(out, self.base.records(), self.base.rows(), &self.held)
     }
@@ -302,13 +297,13 @@ impl Holdings {
     /// later messages. 90 can also mean that there is no memory for the timetable.
     pub fn export<W: Sink>(self, out: &mut W) -> Result<(), ExportFault>
         ensures ok { OnOk result
-            (WritesBase W.taken W.failures self.base.records (days_of_desk self) out.old out.new) }
-        ensures err { IfErr result (λ fault. RefusesBase W.taken W.failures self.base.records
+            (WritesBase self.base.records (days_of_desk self) (W.state out.old) (W.state out.new)) }
+        ensures err { IfErr result (λ fault. RefusesBase W.state self.base.records
             (days_of_desk self) out.old out.new fault) }
-        ensures device { W.device out.new ≡ W.device out.old }
         ensures reads_back { OnOk result
-            (ReadsBackBase W.taken self.base.records (days_of_desk self) out.old out.new) }
-        ensures exports { WritesDesk W.taken (state_of self) out.old out.new result }
+            (ReadsBackBase self.base.records (days_of_desk self) (W.state out.old)
+            (W.state out.new)) }
+        ensures exports { WritesDesk (state_of self) (W.state out.old) (W.state out.new) result }
     {
         let Holdings { base, held, alloc } = self;
         let (data_set, stations) = base.into_parts();

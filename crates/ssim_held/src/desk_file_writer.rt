@@ -1,10 +1,9 @@
 //! The desk file, written from a base and the messages that are held.
 
-ghost use Rattle.std.specs.Prelude.{◌≡◌, ◌++◌, ◌∷◌, [], decimal, OnOk, OnErr};
-ghost use Rattle.std.specs.Io.KnownBytes.{Appends};
+ghost use Rattle.std.specs.Prelude.{◌≡◌, ◌++◌, ◌∷◌, [], decimal, OnOk};
 ghost use Rattle.std.specs.List.{All};
 ghost use Rattle.ssim_base.specs.BaseSeen.{base_with};
-ghost use Rattle.ssim_base.specs.Sinks.{CountsFault, TakesPrefix, TakesUpTo};
+ghost use Rattle.ssim_base.specs.Sinks.{Puts, PutsUpTo};
 ghost use Rattle.ssim_held.specs.File.{IsRow, IsSpelled, desk_file, records_part, rows_part};
 ghost use Rattle.ssim_held.specs.File.{text_element, texts_part};
 ghost use Rattle.ssim_held.specs.internal.DeskFileWriter.{base_part};
@@ -23,14 +22,10 @@ pub fn put_desk<W: Sink>(
     rows: &[StationRow],
     held: &[Held],
 ) -> Result<(), WriteFault>
-    ensures ok { OnOk result (Appends (W.taken out.old) (W.taken out.new)
-        (desk_file (base_with records.now rows.now) held.now)) }
+    ensures puts { Puts (desk_file (base_with records.now rows.now) held.now) (W.state out.old)
+        (W.state out.new) result }
     ensures rows { OnOk result (All IsRow rows.now) }
     ensures spelled { OnOk result (All IsSpelled held.now) }
-    ensures err { OnErr result (TakesPrefix (desk_file (base_with records.now rows.now) held.now)
-        (W.taken out.old) (W.taken out.new)) }
-    ensures failures { CountsFault (W.failures out.old) (W.failures out.new) result }
-    ensures device { W.device out.new ≡ W.device out.old }
 {
     let mut block = OutputBuffer::new();
     put_base(out, &mut block, records, rows)?;
@@ -46,13 +41,9 @@ fn put_base<W: Sink>(
     records: &[Record],
     rows: &[StationRow],
 ) -> Result<(), WriteFault>
-    ensures ok { OnOk result (TakesUpTo (block.old ++ base_part records.now rows.now) block.new
-        (W.taken out.old) (W.taken out.new)) }
+    ensures puts { PutsUpTo (block.old ++ base_part records.now rows.now) block.new
+        (W.state out.old) (W.state out.new) result }
     ensures rows { OnOk result (All IsRow rows.now) }
-    ensures err { OnErr result (TakesPrefix (block.old ++ base_part records.now rows.now)
-        (W.taken out.old) (W.taken out.new)) }
-    ensures failures { CountsFault (W.failures out.old) (W.failures out.new) result }
-    ensures device { W.device out.new ≡ W.device out.old }
 {
     put_counted(out, block, b"SSIMDESK ", 2)?;
     put_records(out, block, records)?;
@@ -66,13 +57,8 @@ fn put_counted<W: Sink>(
     word: &[u8],
     number: usize,
 ) -> Result<(), WriteFault>
-    ensures ok { OnOk result (TakesUpTo
-        (block.old ++ (word.now ++ (decimal number ++ 10 ∷ []))) block.new (W.taken out.old)
-        (W.taken out.new)) }
-    ensures err { OnErr result (TakesPrefix (block.old ++ (word.now ++ (decimal number ++ 10 ∷ [])))
-        (W.taken out.old) (W.taken out.new)) }
-    ensures failures { CountsFault (W.failures out.old) (W.failures out.new) result }
-    ensures device { W.device out.new ≡ W.device out.old }
+    ensures { PutsUpTo (block.old ++ (word.now ++ (decimal number ++ 10 ∷ []))) block.new
+        (W.state out.old) (W.state out.new) result }
 {
     let mut digits = Buffer::new();
     put_bytes(out, block, word)?;
@@ -86,12 +72,8 @@ fn put_records<W: Sink>(
     block: &mut OutputBuffer,
     records: &[Record],
 ) -> Result<(), WriteFault>
-    ensures ok { OnOk result (TakesUpTo (block.old ++ records_part records.now) block.new
-        (W.taken out.old) (W.taken out.new)) }
-    ensures err { OnErr result
-        (TakesPrefix (block.old ++ records_part records.now) (W.taken out.old) (W.taken out.new)) }
-    ensures failures { CountsFault (W.failures out.old) (W.failures out.new) result }
-    ensures device { W.device out.new ≡ W.device out.old }
+    ensures { PutsUpTo (block.old ++ records_part records.now) block.new
+        (W.state out.old) (W.state out.new) result }
 {
     put_counted(out, block, b"RECORDS ", records.len())?;
     for record in records {
@@ -106,13 +88,9 @@ fn put_rows<W: Sink>(
     block: &mut OutputBuffer,
     rows: &[StationRow],
 ) -> Result<(), WriteFault>
-    ensures ok { OnOk result (TakesUpTo (block.old ++ rows_part rows.now) block.new
-        (W.taken out.old) (W.taken out.new)) }
+    ensures puts { PutsUpTo (block.old ++ rows_part rows.now) block.new
+        (W.state out.old) (W.state out.new) result }
     ensures rows { OnOk result (All IsRow rows.now) }
-    ensures err { OnErr result
-        (TakesPrefix (block.old ++ rows_part rows.now) (W.taken out.old) (W.taken out.new)) }
-    ensures failures { CountsFault (W.failures out.old) (W.failures out.new) result }
-    ensures device { W.device out.new ≡ W.device out.old }
 {
     put_counted(out, block, b"STATIONS ", rows.len())?;
     for row in rows {
@@ -127,13 +105,9 @@ fn put_texts<W: Sink>(
     block: &mut OutputBuffer,
     held: &[Held],
 ) -> Result<(), WriteFault>
-    ensures ok { OnOk result (TakesUpTo (block.old ++ texts_part held.now) block.new
-        (W.taken out.old) (W.taken out.new)) }
+    ensures puts { PutsUpTo (block.old ++ texts_part held.now) block.new
+        (W.state out.old) (W.state out.new) result }
     ensures spelled { OnOk result (All IsSpelled held.now) }
-    ensures err { OnErr result
-        (TakesPrefix (block.old ++ texts_part held.now) (W.taken out.old) (W.taken out.new)) }
-    ensures failures { CountsFault (W.failures out.old) (W.failures out.new) result }
-    ensures device { W.device out.new ≡ W.device out.old }
 {
     put_counted(out, block, b"TEXTS ", held.len())?;
     for message in held {
@@ -144,13 +118,9 @@ fn put_texts<W: Sink>(
 
 // Puts the canonical text of a message and its length.
 fn put_text<W: Sink>(out: &mut W, block: &mut OutputBuffer, held: &Held) -> Result<(), WriteFault>
-    ensures ok { OnOk result (TakesUpTo (block.old ++ text_element held.now) block.new
-        (W.taken out.old) (W.taken out.new)) }
+    ensures puts { PutsUpTo (block.old ++ text_element held.now) block.new
+        (W.state out.old) (W.state out.new) result }
     ensures spelled { IsSpelled held.now }
-    ensures err { OnErr result
-        (TakesPrefix (block.old ++ text_element held.now) (W.taken out.old) (W.taken out.new)) }
-    ensures failures { CountsFault (W.failures out.old) (W.failures out.new) result }
-    ensures device { W.device out.new ≡ W.device out.old }
 {
     let text = held.message().text();
     put_counted(out, block, b"TEXT ", text.len())?;

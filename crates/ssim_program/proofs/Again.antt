@@ -2,6 +2,7 @@
 use Rattle.std.proofs.Common.{◌≡◌, ◌∙◌, ◌⊎◌, ℕ, Bool, true, false, true≢false, List, [], Option, Some, Result, Ok, Err, inl, inr, sym, ap, subst}
 use Rattle.ssim_values.specs.Flight.{FlightNumber}
 use Rattle.ssim_records.specs.Carrier.{CarrierFields}
+use Rattle.ssim_records.specs.Device.{Writer}
 use Rattle.ssim_records.specs.Header.{HeaderFields}
 use Rattle.ssim_records.specs.Trailer.{TrailerFields}
 use Rattle.ssim_records.specs.declared.record.Record.{Record}
@@ -91,6 +92,7 @@ reads_itself frame days bytes r = record {
   export = (kept_frame frame, r.frame_is, r.again);
 }
 
-pub grows_by_itself : {W : Type 0} (taken : W → Option (List ℕ)) (base : List Record) (days : FlightNumber → Days) (old new : W) → ReadsBackBase taken base days old new
-    → GrowsByItself (taken old) (taken new)
-grows_by_itself taken base days old new back = (back.2, reads_itself back.0 days back.2 back.4, back.3)
+pub grows_by_itself : (base : List Record) (days : FlightNumber → Days) (old new : Writer)
+    → ReadsBackBase base days old new → GrowsByItself old.taken new.taken
+grows_by_itself base days old new back =
+    (back.2, reads_itself back.0 days back.2 back.4, back.3)

@@ -14,11 +14,11 @@ use Rattle.ssim_held.specs.Entries.{DeskSeen}
 use Rattle.ssim_desk.specs.Desk.{days_of_desk}
 use Rattle.ssim_program.specs.Again.{GrowsByItself}
 use Rattle.ssim_program.specs.Desks.{ReadsDesk}
-use Rattle.ssim_program.specs.internal.Export.{IsWritten, PrintsExport, failures_of, taken_of}
+use Rattle.ssim_program.specs.internal.Export.{IsWritten, PrintsExport}
 use Rattle.ssim_program.specs.Files.{Files}
 use Rattle.ssim_command_line.specs.Line.{Text, Tidy, Export}
 use Rattle.ssim_program.specs.Made.{ReadsFile}
-use Rattle.ssim_program.specs.print.Paper.{Grows, Paper}
+use Rattle.ssim_program.specs.print.Paper.{Grows, Paper, writer_of}
 use Rattle.ssim_program.specs.internal.Print.{Prints}
 use Rattle.ssim_program.specs.print.Refusal.{refusal_of_export}
 use Rattle.ssim_program.specs.World.{world}
@@ -29,29 +29,41 @@ use Rattle.ssim_program.proofs.Printers.{breaks_after, flushed_after, nothing}
 
 module _ (base : List Record) (days : FlightNumber → Days) (before mid : Paper) where
   -- the export was written, and then flushed, or the flush failed
-  pub flushed : (after : Paper) (r : Result (Unit {0}) Refusal) → IsWritten base days before mid (Ok tt) → Prints [] mid after r → PrintsExport base days before after r
+  pub flushed : (after : Paper) (r : Result (Unit {0}) Refusal)
+      → IsWritten base days before mid (Ok tt) → Prints [] mid after r
+      → PrintsExport base days before after r
   flushed after (Ok x) w h =
-      let grown : Grows w.ok.2.0 before mid = record { taken = w.ok.2.2; failures = w.ok.2.3; device = w.device } in
-      let itself : GrowsByItself before.taken mid.taken = grows_by_itself taken_of base days before mid w.reads_back in
-      let longer : Appends before.taken after.taken (itself.0 ++ []) = Appends-trans before.taken mid.taken after.taken itself.0 [] itself.2 h.0.taken in (
-        (w.ok.2.0, (w.ok.0, w.ok.1, w.ok.2.1), flushed_after w.ok.2.0 before mid after grown h.0),
-        (itself.0, itself.1, subst (λ (bs : List ℕ). Appends before.taken after.taken bs) (append-nil itself.0) longer),
+      let itself : GrowsByItself before.taken mid.taken =
+      grows_by_itself base days (writer_of before) (writer_of mid) w.reads_back in
+      let longer : Appends before.taken after.taken (itself.0 ++ []) =
+      Appends-trans before.taken mid.taken after.taken itself.0 [] itself.2 h.0.taken in (
+        (w.ok.2.0, (w.ok.0, w.ok.1, w.ok.2.1), flushed_after w.ok.2.0 before mid after w.ok.2.2 h.0),
+        (
+          itself.0,
+          itself.1,
+          subst (λ (bs : List ℕ). Appends before.taken after.taken bs) (append-nil itself.0) longer,
+        ),
         h.1,
       )
   flushed after (Err refusal) w h = inr (
     h.0,
     w.ok.2.0,
     (w.ok.0, w.ok.1, w.ok.2.1),
-    breaks_after w.ok.2.0 before mid after (record { taken = w.ok.2.2; failures = w.ok.2.3; device = w.device }) h.1,
+    breaks_after w.ok.2.0 before mid after w.ok.2.2 h.1,
   )
 
   -- the export was not written
-  pub not_written : (airline : List ℕ) (fault : ExportFault) → airline ≡ airline_of base → mid.device ≡ before.device → RefusesBase taken_of failures_of base days before mid fault
+  pub not_written : (airline : List ℕ) (fault : ExportFault) → airline ≡ airline_of base
+      → RefusesBase writer_of base days before mid fault
       → PrintsExport base days before mid (Err (refusal_of_export airline fault))
-  not_written airline (Variations flight) is device h = inl (h.2.1, (Variations flight, (h.0, h.1, h.2.0), ap (λ (a : List ℕ). refusal_of_export a (Variations flight)) is))
-  not_written airline Records is device h = inl (h.2.1, (Records, (h.0, h.1, h.2.0), ap (λ (a : List ℕ). refusal_of_export a Records) is))
-  not_written airline Memory is device h = inl (h.2, (Memory, tt, refl))
-  not_written airline WriteFault is device h = inr (refl, h.2.0, (h.0, h.1, h.2.1), record { taken = h.2.2; failures = h.2.3; device = device })
+  not_written airline (Variations flight) is h = inl (
+    h.2.1,
+    (Variations flight, (h.0, h.1, h.2.0), ap (λ a. refusal_of_export a (Variations flight)) is),
+  )
+  not_written airline Records is h =
+      inl (h.2.1, (Records, (h.0, h.1, h.2.0), ap (λ a. refusal_of_export a Records) is))
+  not_written airline Memory is h = inl (h.2, (Memory, tt, refl))
+  not_written airline WriteFault is h = inr (refl, h.2.0, (h.0, h.1, h.2.1), h.2.2)
 
 -- what `tidy` does
 module _ (files : Option Files) (n : ℕ) (new : Option Files) (m : ℕ) (name : Text) (same : new ≡ files) (counted : m ≡ n) (p q : Paper) where

@@ -3,7 +3,7 @@ use Rattle.std.proofs.Common.{◌∙◌, inl, inr, ℕ, ◌+◌, ◌%◌, ◌^�
 use Rattle.std.proofs.KnownBytes.{Appends-nil, Appends-trans}
 use Rattle.ssim_base.proofs.SinkLemmas.{front_more, then_front}
 use Rattle.ssim_program.specs.print.Paper.{Breaks, Grows, Paper, PrintsOrFails}
-use Rattle.ssim_program.specs.internal.Print.{Prints, Puts}
+use Rattle.ssim_program.specs.internal.Print.{Prints, PrintsPart}
 use Rattle.ssim_program.specs.declared.refusal.Refusal.{Refusal}
 
 -- no call
@@ -39,7 +39,7 @@ breaks_first x y p q b =
     record { taken = front_more x y (x ++ y) p.taken q.taken refl b.taken; failures = b.failures; device = b.device }
 
 -- some bytes were put, and then others are put or printed
-pub puts_then : (x y : List ℕ) (p q r : Paper) (result : Result (Unit {0}) Refusal) → Grows x p q → Puts y q r result → Puts (x ++ y) p r result
+pub puts_then : (x y : List ℕ) (p q r : Paper) (result : Result (Unit {0}) Refusal) → Grows x p q → PrintsPart y q r result → PrintsPart (x ++ y) p r result
 puts_then x y p q r (Ok _) g h = grows_more x y p q r g h
 puts_then x y p q r (Err e) g h = (h.0, breaks_more x y p q r g h.1)
 

@@ -1,8 +1,7 @@
 //! What is kept in files.
 
-ghost use Rattle.std.specs.Prelude.{◌≡◌, List, ℕ, OnErr, OnOk};
-ghost use Rattle.std.specs.Io.KnownBytes.{Appends};
-ghost use Rattle.ssim_base.specs.Sinks.{CountsFault, TakesPrefix};
+ghost use Rattle.std.specs.Prelude.{List, ℕ};
+ghost use Rattle.ssim_base.specs.Sinks.{Puts};
 ghost use Rattle.ssim_held.specs.File.{desk_file};
 
 use ssim_base::{OutputBuffer, WriteFault, flush, put_bytes};
@@ -17,10 +16,7 @@ pub trait Content {
 
     /// Puts the bytes into the sink. Fails only if the sink fails, which then has a prefix of them.
     fn put<W: Sink>(&self, out: &mut W) -> Result<(), WriteFault>
-        ensures ok { OnOk result (Appends (W.taken out.old) (W.taken out.new) (bytes self.now)) }
-        ensures err { OnErr result (TakesPrefix (bytes self.now) (W.taken out.old)
-            (W.taken out.new)) }
-        ensures failures { CountsFault (W.failures out.old) (W.failures out.new) result };
+        ensures { Puts (bytes self.now) (W.state out.old) (W.state out.new) result };
 }
 
 /// Bytes are kept as they are.

@@ -10,6 +10,15 @@ pub record Reader : Type 0 where
   pub came : ℕ
   pub failures : ℕ
 
+-- What a contract knows of a sink: the bytes that it took, if the sink reports them; the number of
+-- puts that failed, or that took no byte of some, which wraps at 2^64; and the number of the device
+-- that the bytes go to, 0 if it has none. No put changes that number. So a caller that lends its
+-- sink to a function over any sink knows that it still writes to the same device afterwards.
+pub record Writer : Type 0 where
+  pub taken : Option (List ℕ)
+  pub failures : ℕ
+  pub device : ℕ
+
 -- If the bytes left are not known, the count of a source changes by the bytes of a fetch.
 abbrev pub CountChanges : Option (List ℕ) → Option (List ℕ) → ℕ → ℕ → Result ℕ DeviceFault → Type 0
 CountChanges (Some bytes) left old new result = Unit {0}

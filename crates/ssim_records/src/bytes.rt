@@ -46,9 +46,7 @@ impl Bytes {
 }
 
 impl Sink for Bytes {
-    ghost taken = { λ s. Some s.bytes };
-
-    ghost failures = { λ s. s.failures };
+    ghost state = { λ s. record { taken = Some s.bytes; failures = s.failures; device = 0 } };
 
     fn put(&mut self, bytes: &[u8]) -> Result<usize, DeviceFault>
         ensures bound { WritesAtMost result bytes.now }

@@ -1,9 +1,9 @@
 //! The devices that bytes come from and go to.
 
-ghost use Rattle.std.specs.Prelude.{◌≡◌, List, ℕ, Option, Some, Ok, length, min};
+ghost use Rattle.std.specs.Prelude.{◌≡◌, Some, Ok, length, min};
 ghost use Rattle.std.specs.Io.{ReadsAtMost, WritesAtMost};
 ghost use Rattle.std.specs.Io.KnownBytes.{ReadConsumes, WriteAppends};
-ghost use Rattle.ssim_records.specs.Device.{CountsBytes, CountsFailure, CountsPut, Reader};
+ghost use Rattle.ssim_records.specs.Device.{CountsBytes, CountsFailure, CountsPut, Reader, Writer};
 
 use thiserror::Error;
 
@@ -38,24 +38,18 @@ pub trait Source {
 
 /// A device that bytes go to.
 pub trait Sink {
-    /// The bytes that were taken, if the contract knows them.
-    ghost taken: { Self → Option (List ℕ) };
-
-    /// The number of puts that failed, or took no byte of a text that is not empty. It wraps at
-    /// 2^64.
-    ghost failures: { Self → ℕ };
-
-    /// The number of the device that the bytes go to, 0 if it has none. No put changes it. So a
-    /// caller that lends its sink to a function over any sink knows that it still writes to the
-    /// same device afterwards.
-    ghost device: { Self → ℕ } = { λ _. 0 };
+    /// The bytes that were taken, if the contract knows them; the number of puts that failed, or
+    /// took no byte of a text that is not empty; and the number of the device.
+    ghost state: { Self → Writer };
 
     /// Takes bytes from the beginning of `bytes`, and returns their number.
     fn put(&mut self, bytes: &[u8]) -> Result<usize, DeviceFault>
         ensures bound { WritesAtMost result bytes.now }
-        ensures bytes { WriteAppends (taken self.old) (taken self.new) result bytes.now }
-        ensures failures { CountsPut (failures self.old) (failures self.new) result bytes.now }
-        ensures device { device self.new ≡ device self.old };
+        ensures bytes { WriteAppends (state self.old).taken (state self.new).taken result
+            bytes.now }
+        ensures failures { CountsPut (state self.old).failures (state self.new).failures result
+            bytes.now }
+        ensures device { (state self.new).device ≡ (state self.old).device };
 }
 
 /// A slice gives its bytes in order, and never fails.

@@ -77,9 +77,7 @@ impl<W: Write> Output<W> {
 }
 
 impl<W: Write> Sink for Output<W> {
-    ghost taken = { λ _. None };
-
-    ghost failures = { λ s. s.failures };
+    ghost state = { λ s. record { taken = None; failures = s.failures; device = 0 } };
 
     fn put(&mut self, bytes: &[u8]) -> Result<usize, DeviceFault>
         ensures bound { WritesAtMost result bytes.now }

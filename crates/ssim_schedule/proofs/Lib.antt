@@ -9,7 +9,6 @@ pub mod Puts
 pub mod RunLemmas
 pub mod PlacedLegLemmas
 pub mod SameTails
-pub mod Serials
 pub mod TableLemmas
 pub mod BlockLemmas
 pub mod LegPairs
@@ -17,4 +16,3 @@ pub mod Acts
 pub mod Applied
 pub mod InOrder
 pub mod Writable
-pub mod WrittenBack

@@ -7,6 +7,7 @@ use Rattle.std.proofs.lemmas.List.{append_assoc, get_or_default}
 use Rattle.std.proofs.lemmas.List.Elements.{All-append, recursion_from_All, All-from_recursion}
 use Rattle.ssim_values.specs.Flight.{FlightNumber, IsFlight}
 use Rattle.ssim_periods.specs.Days.{each_day}
+use Rattle.ssim_records.specs.Device.{Writer}
 use Rattle.ssim_records.specs.declared.record.Record.{Record}
 use Rattle.ssim_base.specs.Timetable.{Days, same_flight}
 use Rattle.ssim_base.specs.Export as refusal
@@ -187,9 +188,10 @@ refusal_is frame table plan r rising exist is some =
     ∙ ap (λ o. result_map export_bytes (unless_refused o (sections frame (plan_records frame.carrier.airline plan)))) some
 
 -- what was measured is what is returned
-pub refuses : {W : Type 0} (taken : W → Option (List ℕ)) (failures : W → ℕ) (export : Result (List ℕ) ExportRefusal) (out : W) (answer : Option ExportRefusal) (fault : ExportFault)
-    → IsRefusedAs answer fault → ((r : ExportRefusal) → answer ≡ Some r → export ≡ Err r) → Refuses taken failures export out out fault
-refuses taken failures export out answer (Variations flight) h is = (is (refusal.Variations flight) h, refl)
-refuses taken failures export out answer Records h is = (is refusal.Records h, refl)
-refuses taken failures export out answer WriteFault h is = absurd h
-refuses taken failures export out answer Memory h is = absurd h
+pub refuses : {W : Type 0} (state : W → Writer) (export : Result (List ℕ) ExportRefusal) (out : W)
+    (answer : Option ExportRefusal) (fault : ExportFault) → IsRefusedAs answer fault
+    → ((r : ExportRefusal) → answer ≡ Some r → export ≡ Err r) → Refuses state export out out fault
+refuses state export out answer (Variations flight) h is = (is (refusal.Variations flight) h, refl)
+refuses state export out answer Records h is = (is refusal.Records h, refl)
+refuses state export out answer WriteFault h is = absurd h
+refuses state export out answer Memory h is = absurd h

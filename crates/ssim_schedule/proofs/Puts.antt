@@ -1,142 +1,171 @@
 -- The lines of an export in the parts in which they are put, and how many there are.
-use Rattle.std.proofs.Common.{◌≡◌, ℕ, suc, ◌+◌, List, [], ◌∷◌, ◌++◌, map, length, replicate, Some, length-append, refl, sym, ap, ◌∙◌, arith}
+use Rattle.std.proofs.Common.{◌≡◌, ℕ, suc, ◌+◌, ◌-◌, List, [], ◌∷◌, ◌++◌, map, length, replicate, Result, Ok, Err, append_assoc, length-append, refl, sym, ap, ap₂, ◌∙◌, arith}
 use Rattle.std.specs.Prelude.{slice_index}
 use Rattle.std.specs.List.{flat_map}
+use Rattle.std.specs.Result.{IsErr}
+use Rattle.std.proofs.lemmas.List.{length-map}
 use Rattle.ssim_values.specs.Flight.{FlightNumber}
 use Rattle.ssim_values.specs.Period.{DayRange}
+use Rattle.ssim_records.specs.Device.{Writer}
 use Rattle.ssim_records.specs.Frames.{fill}
-use Rattle.ssim_records.specs.Leg.{LegFields, Name}
+use Rattle.ssim_records.specs.Leg.{Name, exported_leg, written_leg}
 use Rattle.ssim_records.specs.Record.{written}
+use Rattle.ssim_records.specs.Segment.{exported_segment, written_segment}
 use Rattle.ssim_records.specs.Header.{HeaderFields}
 use Rattle.ssim_records.specs.Carrier.{CarrierFields}
 use Rattle.ssim_records.specs.Trailer.{TrailerFields}
 use Rattle.ssim_records.specs.declared.record.Record.{Record}
-use Rattle.ssim_records.specs.declared.record.Record.TheVariants.{Header, Carrier, Leg, Trailer}
+use Rattle.ssim_records.specs.declared.record.Record.TheVariants.{Header, Carrier, Trailer}
 use Rattle.ssim_base.specs.Timetable.{LegValue, Legs}
 use Rattle.ssim_base.specs.Export.{Piece, fill_count, frame_from, leg_records, line, numbered, pieces_records, section_bytes, tail_record, with_serial}
+use Rattle.ssim_base.specs.Sinks.{Breaks, GrowsUpTo, PutsUpTo}
 use Rattle.ssim_schedule.specs.FlightPieces.{Divided}
-use Rattle.ssim_schedule.specs.internal.Plan.{numbered_lines, pieces_count, plan_bytes, plan_count, plan_records}
+use Rattle.ssim_schedule.specs.internal.Plan.{alone_bytes, leg_lines, numbered_lines, piece_lines, pieces_count, plan_bytes, plan_count, plan_lines, plan_records, tail_lines}
 use Rattle.ssim_schedule.specs.internal.SharedLegs.{legs_count}
-use Rattle.ssim_schedule.proofs.Serials.{numbered_lines-append}
+use Rattle.ssim_base.proofs.SinkLemmas.{fails, none_put, one_section, part_fails, part_put, puts_then}
 
 -- ---- how many
 
-tails-counted : (name : Name) (service : ℕ) (tails : List (List ℕ)) → length (map (tail_record name service) tails) ≡ length tails
-tails-counted name service [] = refl
-tails-counted name service (t ∷ tails) = ap suc (tails-counted name service tails)
-
-pub leg-counted : (a : List ℕ) (f : FlightNumber) (v : ℕ) (p : DayRange) (l : LegValue) → length (leg_records a f v p l) ≡ 1 + length l.tails
-leg-counted a f v p l =
-    let count = tails-counted (record { airline = a; flight = f; variation = v; sequence = l.sequence }) (slice_index l.columns 0) l.tails in
-    let more : suc (length (map (tail_record (record { airline = a; flight = f; variation = v; sequence = l.sequence }) (slice_index l.columns 0)) l.tails)) ≡ 1 + length l.tails = omega (arith, count) in
-    more
-
-pub legs-counted : (a : List ℕ) (f : FlightNumber) (v : ℕ) (p : DayRange) (legs : Legs) → length (flat_map (leg_records a f v p) legs) ≡ legs_count legs
+legs-counted : (a : List ℕ) (f : FlightNumber) (v : ℕ) (p : DayRange) (legs : Legs)
+    → length (flat_map (leg_records a f v p) legs) ≡ legs_count legs
 legs-counted a f v p [] = refl
 legs-counted a f v p (l ∷ legs) =
+    let named : Name = record { airline = a; flight = f; variation = v; sequence = l.sequence } in
+    let tails = length-map l.tails (tail_record named (slice_index l.columns 0)) in
+    let leg : length (leg_records a f v p l) ≡ 1 + length l.tails = omega (arith, tails) in
     length-append (leg_records a f v p l) (flat_map (leg_records a f v p) legs)
-    ∙ ap (λ (n : ℕ). n + length (flat_map (leg_records a f v p) legs)) (leg-counted a f v p l)
-    ∙ ap (λ (n : ℕ). (1 + length l.tails) + n) (legs-counted a f v p legs)
+    ∙ ap₂ (λ (m n : ℕ). m + n) leg (legs-counted a f v p legs)
 
-pub pieces-counted : (a : List ℕ) (f : FlightNumber) (v : ℕ) (pieces : List Piece) → length (pieces_records a f v pieces) ≡ pieces_count pieces
+pub pieces-counted : (a : List ℕ) (f : FlightNumber) (v : ℕ) (pieces : List Piece)
+    → length (pieces_records a f v pieces) ≡ pieces_count pieces
 pieces-counted a f v [] = refl
 pieces-counted a f v (p ∷ pieces) =
     length-append (flat_map (leg_records a f v p.0) p.1) (pieces_records a f (v + 1) pieces)
-    ∙ ap (λ (n : ℕ). n + length (pieces_records a f (v + 1) pieces)) (legs-counted a f v p.0 p.1)
-    ∙ ap (λ (n : ℕ). legs_count p.1 + n) (pieces-counted a f (v + 1) pieces)
+    ∙ ap₂ (λ (m n : ℕ). m + n) (legs-counted a f v p.0 p.1) (pieces-counted a f (v + 1) pieces)
 
-pub plan-counted : (a : List ℕ) (plan : List Divided) → length (plan_records a plan) ≡ plan_count plan
+plan-counted : (a : List ℕ) (plan : List Divided) → length (plan_records a plan) ≡ plan_count plan
 plan-counted a [] = refl
 plan-counted a (p ∷ plan) =
     length-append (pieces_records a p.0 1 p.1) (plan_records a plan)
-    ∙ ap (λ (n : ℕ). n + length (plan_records a plan)) (pieces-counted a p.0 1 p.1)
-    ∙ ap (λ (n : ℕ). pieces_count p.1 + n) (plan-counted a plan)
+    ∙ ap₂ (λ (m n : ℕ). m + n) (pieces-counted a p.0 1 p.1) (plan-counted a plan)
 
 numbered-counted : (n : ℕ) (rs : List Record) → length (numbered n rs) ≡ length rs
 numbered-counted n [] = refl
 numbered-counted n (r ∷ rs) = ap suc (numbered-counted (n + 1) rs)
 
--- ---- the first of them and the others
+-- ---- the first of the parts that are left, and the others
 
-lines-split : (n next : ℕ) (xs rest whole : List Record) → whole ≡ xs ++ rest → next ≡ n + length xs → numbered_lines n whole ≡ numbered_lines n xs ++ numbered_lines next rest
-lines-split n next xs rest whole split count =
-    ap (λ (rs : List Record). numbered_lines n rs) split ∙ numbered_lines-append n xs rest ∙ ap (λ (m : ℕ). numbered_lines n xs ++ numbered_lines m rest) (sym count)
+lines-split : (n next : ℕ) (xs rest : List Record) → next ≡ n + length xs
+    → numbered_lines n (xs ++ rest) ≡ numbered_lines n xs ++ numbered_lines next rest
+lines-split n next [] rest is =
+    let same : n ≡ next = omega arith in ap (λ m. numbered_lines m rest) same
+lines-split n next (x ∷ xs) rest is =
+    let first = line (written (with_serial n x)) in
+    ap (λ bs. first ++ bs) (lines-split (n + 1) next xs rest (omega arith))
+    ∙ sym (append_assoc first (numbered_lines (n + 1) xs) (numbered_lines next rest))
 
-line-split : (n : ℕ) (one : Record) (rest whole : List Record) (bytes : List ℕ) → whole ≡ one ∷ rest → bytes ≡ written (with_serial n one) → numbered_lines n whole ≡ line bytes ++ numbered_lines (n + 1) rest
-line-split n one rest whole bytes split is =
-    ap (λ (rs : List Record). numbered_lines n rs) split ∙ ap (λ (bs : List ℕ). line bs ++ numbered_lines (n + 1) rest) (sym is)
+pub tails-split : {left rest : List (List ℕ)} {tail : List ℕ} (name : Name) (columns : List ℕ)
+    (n : ℕ) → left ≡ tail ∷ rest → tail_lines name columns n left
+    ≡ line (written_segment (exported_segment name (slice_index columns 0) tail n))
+    ++ tail_lines name columns (n + 1) rest
+tails-split name columns n is = ap (tail_lines name columns n) is
 
--- ---- tails
+-- a leg's line, the lines of its tails, and then the others
+pub legs-split : {left rest : Legs} {l : LegValue} {name : Name} {p days : DayRange}
+    {columns : List ℕ} {tails : List (List ℕ)} {s next : ℕ} (a : List ℕ) (f : FlightNumber)
+    (v n : ℕ) → left ≡ l ∷ rest
+    → name ≡ record { airline = a; flight = f; variation = v; sequence = s } → s ≡ l.sequence
+    → days ≡ p → columns ≡ l.columns → tails ≡ l.tails → next ≡ (n + 1) + length tails
+    → leg_lines a f v p n left ≡ line (written_leg (exported_leg name days columns n))
+    ++ (tail_lines name columns (n + 1) tails ++ leg_lines a f v p next rest)
+legs-split {left} {rest} {l} {p = p} {next = next} a f v n is names place dates own its count =
+    let named : Name = record { airline = a; flight = f; variation = v; sequence = l.sequence } in
+    let records = map (tail_record named (slice_index l.columns 0)) l.tails in
+    let many : length records ≡ length l.tails = length-map l.tails _ in
+    let same : next ≡ (n + 1) + length records = omega (arith, ap length its) in
+    rw (names, place, dates, own, its) (ap (leg_lines a f v p n) is
+    ∙ ap (λ bs. line (written_leg (exported_leg named p l.columns n)) ++ bs)
+    (lines-split (n + 1) next records (flat_map (leg_records a f v p) rest) same))
 
-pub tails-split : (name : Name) (service n : ℕ) (tail : List ℕ) (rest whole : List (List ℕ)) (bytes : List ℕ) → whole ≡ tail ∷ rest → bytes ≡ written (with_serial n (tail_record name service tail))
-    → numbered_lines n (map (tail_record name service) whole) ≡ line bytes ++ numbered_lines (n + 1) (map (tail_record name service) rest)
-tails-split name service n tail rest whole bytes split is =
-    line-split n (tail_record name service tail) (map (tail_record name service) rest) _ bytes (ap (λ (ts : List (List ℕ)). map (tail_record name service) ts) split) is
+pub pieces-split : {left rest : List Piece} {p : Piece} {legs : Legs} {next : ℕ} (a : List ℕ)
+    (f : FlightNumber) (v n : ℕ) → left ≡ p ∷ rest → legs ≡ p.1 → next ≡ n + legs_count legs
+    → piece_lines a f v n left ≡ leg_lines a f v p.0 n legs ++ piece_lines a f (v + 1) next rest
+pieces-split {left} {rest} {p} {legs} {next} a f v n is its count =
+    let many = legs-counted a f v p.0 p.1 in
+    let same : next ≡ n + length (flat_map (leg_records a f v p.0) p.1) =
+    omega (arith, ap legs_count its) in
+    rw its (ap (piece_lines a f v n) is
+    ∙ lines-split n next _ (pieces_records a f (v + 1) rest) same)
 
--- ---- legs
+pub flights-split : {left rest : List Divided} {p : Divided} {flight : FlightNumber}
+    {pieces : List Piece} {next : ℕ} (a : List ℕ) (n : ℕ) → left ≡ p ∷ rest → flight ≡ p.0
+    → pieces ≡ p.1 → next ≡ n + pieces_count pieces
+    → plan_lines a n left ≡ piece_lines a flight 1 n pieces ++ plan_lines a next rest
+flights-split {left} {rest} {p} {flight} {pieces} {next} a n is number its count =
+    let many = pieces-counted a p.0 1 p.1 in
+    let same : next ≡ n + length (pieces_records a p.0 1 p.1) =
+    omega (arith, ap pieces_count its) in
+    rw (number, its) (ap (plan_lines a n) is ∙ lines-split n next _ (plan_records a rest) same)
 
-abbrev pub name_from : List ℕ → FlightNumber → ℕ → ℕ → Name
-name_from a f v s = record { airline = a; flight = f; variation = v; sequence = s }
+-- the third section
+pub body-split : {count : ℕ} (a : List ℕ) (plan : List Divided) → count ≡ plan_count plan
+    → section_bytes (numbered 3 (plan_records a plan))
+    ≡ plan_lines a 3 plan ++ flat_map line (replicate (fill_count count) fill)
+body-split a plan is =
+    ap (λ (k : ℕ). plan_lines a 3 plan ++ flat_map line (replicate (fill_count k) fill))
+    (numbered-counted 3 (plan_records a plan) ∙ plan-counted a plan ∙ sym is)
 
-abbrev pub leg_from : Name → DayRange → List ℕ → LegFields
-leg_from name p columns = record { name = name; first = p.first; last = Some p.last; days = p.days; rate = 32; columns = columns; overflow = 32; serial = 0 }
+-- ---- the sections
 
--- a leg's line, and then the others
-pub leg-split : (a : List ℕ) (f : FlightNumber) (v : ℕ) (p : DayRange) (n : ℕ) (l : LegValue) (rest whole : Legs) (bytes : List ℕ) → whole ≡ l ∷ rest
-    → bytes ≡ written (with_serial n (Leg (leg_from (name_from a f v l.sequence) p l.columns)))
-    → numbered_lines n (flat_map (leg_records a f v p) whole)
-    ≡ line bytes ++ numbered_lines (n + 1) (map (tail_record (name_from a f v l.sequence) (slice_index l.columns 0)) l.tails ++ flat_map (leg_records a f v p) rest)
-leg-split a f v p n l rest whole bytes split is =
-    line-split n (Leg (leg_from (name_from a f v l.sequence) p l.columns)) _ _ bytes (ap (λ (ls : Legs). flat_map (leg_records a f v p) ls) split) is
+pub alone-split : (one : Record)
+    → alone_bytes one ≡ line (written one) ++ flat_map line (replicate 4 fill)
+unfolding alone_bytes
+alone-split one = one_section one
 
--- the lines of a leg's tails, and then the others
-pub leg-tails-split : (name : Name) (service n next : ℕ) (tails : List (List ℕ)) (more : List Record) → next ≡ n + length tails
-    → numbered_lines n (map (tail_record name service) tails ++ more) ≡ numbered_lines n (map (tail_record name service) tails) ++ numbered_lines next more
-leg-tails-split name service n next tails more count =
-    lines-split n next (map (tail_record name service) tails) more _ refl (count ∙ ap (λ (k : ℕ). n + k) (sym (tails-counted name service tails)))
-
--- ---- pieces, flights
-
-pub piece-split : (a : List ℕ) (f : FlightNumber) (v n next : ℕ) (p : Piece) (rest whole : List Piece) → whole ≡ p ∷ rest → next ≡ n + legs_count p.1
-    → numbered_lines n (pieces_records a f v whole) ≡ numbered_lines n (flat_map (leg_records a f v p.0) p.1) ++ numbered_lines next (pieces_records a f (v + 1) rest)
-piece-split a f v n next p rest whole split count =
-    lines-split n next (flat_map (leg_records a f v p.0) p.1) (pieces_records a f (v + 1) rest) _ (ap (λ (ps : List Piece). pieces_records a f v ps) split)
-    (count ∙ ap (λ (k : ℕ). n + k) (sym (legs-counted a f v p.0 p.1)))
-
-pub flight-split : (a : List ℕ) (n next : ℕ) (p : Divided) (rest whole : List Divided) → whole ≡ p ∷ rest → next ≡ n + pieces_count p.1
-    → numbered_lines n (plan_records a whole) ≡ numbered_lines n (pieces_records a p.0 1 p.1) ++ numbered_lines next (plan_records a rest)
-flight-split a n next p rest whole split count =
-    lines-split n next (pieces_records a p.0 1 p.1) (plan_records a rest) _ (ap (λ (ps : List Divided). plan_records a ps) split)
-    (count ∙ ap (λ (k : ℕ). n + k) (sym (pieces-counted a p.0 1 p.1)))
-
--- the third section, and the bytes of all four
-pub body-split : (a : List ℕ) (plan : List Divided) (count : ℕ) → count ≡ plan_count plan
-    → section_bytes (numbered 3 (plan_records a plan)) ≡ numbered_lines 3 (plan_records a plan) ++ flat_map line (replicate (fill_count count) fill)
-body-split a plan count is =
-    ap (λ (k : ℕ). numbered_lines 3 (plan_records a plan) ++ flat_map line (replicate (fill_count k) fill)) (numbered-counted 3 (plan_records a plan) ∙ plan-counted a plan ∙ sym is)
-
-abbrev pub header_at : HeaderFields → ℕ → HeaderFields
-header_at h n = record h { serial = n }
-
-abbrev pub carrier_at : CarrierFields → ℕ → CarrierFields
-carrier_at c n = record c { serial = n }
-
-abbrev pub trailer_at : TrailerFields → ℕ → ℕ → TrailerFields
-trailer_at t check n = record t { check = check; serial = n }
-
-pub four_sections : (header h : HeaderFields) (carrier c : CarrierFields) (trailer t : TrailerFields) (a : List ℕ) (plan : List Divided) (check next : ℕ)
-    → h ≡ header_at header 1 → c ≡ carrier_at carrier 2 → a ≡ carrier.airline → check ≡ 2 + plan_count plan → next ≡ 3 + plan_count plan → t ≡ trailer_at trailer check next
+-- the four sections, and the next serial
+pub four_sections : {h : HeaderFields} {c : CarrierFields} {t : TrailerFields} {a : List ℕ}
+    {next : ℕ} (header : HeaderFields) (carrier : CarrierFields) (trailer : TrailerFields)
+    (plan : List Divided) → h ≡ record header { serial = 1 } → c ≡ record carrier { serial = 2 }
+    → a ≡ carrier.airline → next ≡ 3 + plan_count plan
+    → t ≡ record trailer { check = next - 1; serial = next }
     → plan_bytes (frame_from header carrier trailer) plan
-    ≡ section_bytes (Header h ∷ []) ++ (section_bytes (Carrier c ∷ []) ++ (section_bytes (numbered 3 (plan_records a plan)) ++ (section_bytes (Trailer t ∷ []) ++ [])))
-unfolding plan_bytes
-four_sections header h carrier c trailer t a plan check next is-header is-carrier is-airline is-check is-next is-trailer =
-    let body = section_bytes (numbered 3 (plan_records carrier.airline plan)) in
-    let count = plan-counted carrier.airline plan in
-    let same_check : 2 + length (plan_records carrier.airline plan) ≡ check = omega (arith, count, is-check) in
-    let same_next : 3 + length (plan_records carrier.airline plan) ≡ next = omega (arith, count, is-next) in
-    ap (λ (x : HeaderFields). section_bytes (Header x ∷ []) ++ (section_bytes (Carrier (carrier_at carrier 2) ∷ []) ++ (body ++ (section_bytes (Trailer (trailer_at trailer (2 + length (plan_records carrier.airline plan)) (3 + length (plan_records carrier.airline plan))) ∷ []) ++ [])))) (sym is-header)
-    ∙ ap (λ (x : CarrierFields). section_bytes (Header h ∷ []) ++ (section_bytes (Carrier x ∷ []) ++ (body ++ (section_bytes (Trailer (trailer_at trailer (2 + length (plan_records carrier.airline plan)) (3 + length (plan_records carrier.airline plan))) ∷ []) ++ [])))) (sym is-carrier)
-    ∙ ap (λ (x : ℕ). section_bytes (Header h ∷ []) ++ (section_bytes (Carrier c ∷ []) ++ (body ++ (section_bytes (Trailer (trailer_at trailer x (3 + length (plan_records carrier.airline plan))) ∷ []) ++ [])))) same_check
-    ∙ ap (λ (x : ℕ). section_bytes (Header h ∷ []) ++ (section_bytes (Carrier c ∷ []) ++ (body ++ (section_bytes (Trailer (trailer_at trailer check x) ∷ []) ++ [])))) same_next
-    ∙ ap (λ (x : TrailerFields). section_bytes (Header h ∷ []) ++ (section_bytes (Carrier c ∷ []) ++ (body ++ (section_bytes (Trailer x ∷ []) ++ [])))) (sym is-trailer)
-    ∙ ap (λ (x : List ℕ). section_bytes (Header h ∷ []) ++ (section_bytes (Carrier c ∷ []) ++ (section_bytes (numbered 3 (plan_records x plan)) ++ (section_bytes (Trailer t ∷ []) ++ [])))) (sym is-airline)
+    ≡ alone_bytes (Header h) ++ (alone_bytes (Carrier c)
+    ++ (section_bytes (numbered 3 (plan_records a plan)) ++ (alone_bytes (Trailer t) ++ [])))
+unfolding plan_bytes alone_bytes
+four_sections {next = next} header carrier trailer plan header_is carrier_is airline_is is it =
+    let records = plan_records carrier.airline plan in
+    let many = plan-counted carrier.airline plan in
+    let check : 2 + length records ≡ next - 1 = omega (arith, is) in
+    let last : 3 + length records ≡ next = omega (arith, is) in
+    let whole = λ (check serial : ℕ). section_bytes (Header (record header { serial = 1 }) ∷ [])
+    ++ (section_bytes (Carrier (record carrier { serial = 2 }) ∷ [])
+    ++ (section_bytes (numbered 3 records)
+    ++ (section_bytes (Trailer (record trailer { check = check; serial = serial }) ∷ []) ++ []))) in
+    rw (header_is, carrier_is, airline_is, it) (ap₂ whole check last)
+
+-- ---- puts
+
+-- All bytes are put up to those that the buffer holds and those that are left. A part of these is
+-- put, and then the rest is left; or the put fails.
+module _ {all left : List ℕ} {t u : Writer} (h x rest : List ℕ) (split : left ≡ x ++ rest)
+    (before : GrowsUpTo all (h ++ left) t u)
+  where
+    pub next_put : {kept : List ℕ} {v : Writer} → GrowsUpTo (h ++ x) kept u v
+        → GrowsUpTo all (kept ++ rest) t v
+    next_put {kept} {v} put =
+        let done : Result (Unit {0}) (Unit {0}) = Ok tt in
+        puts_then all (h ++ left) (kept ++ rest) t u v done before
+        (rw split (part_put h x rest u v kept put))
+
+    pub next_breaks : {v : Writer} → Breaks (h ++ x) u v → Breaks all t v
+    next_breaks {v} put =
+        let failed : Result (Unit {0}) (Unit {0}) = Err tt in
+        puts_then all (h ++ left) [] t u v failed before (rw split (part_fails h x rest u v put))
+
+    pub next_fails : {A E : Type 0} {v : Writer} (held : List ℕ) (result : Result A E)
+        → IsErr result → Breaks (h ++ x) u v → PutsUpTo all held t v result
+    next_fails {A} {E} {v} held result err put = fails all held t v result err (next_breaks put)
+
+-- the buffer is empty, and all bytes are left
+pub from_empty : {b : List ℕ} (all : List ℕ) (t : Writer) → b ≡ [] → GrowsUpTo all (b ++ all) t t
+from_empty all t empty = rw empty (none_put all t)

@@ -100,21 +100,18 @@ impl Schedule {
     /// to a multiple of five records. LF follows each record.
     ///
     /// 50 names the first flight with more than 99 pieces, and 51 means more than 999,999 records;
-    /// if one flight gives both, it is
-    /// 50. 50, 51 and 90 come before the first byte is written. 52 means that the sink failed or
-    /// took no byte.
+    /// if one flight gives both, the fault is 50. 50, 51 and 90 come before the first byte is
+    /// written. 52 means that the sink failed or took no byte.
     pub fn export<W: Sink>(&self, base: &Base, out: &mut W) -> Result<(), ExportFault>
-        ensures ok { OnOk result (WritesBase W.taken W.failures base.now.records (days_in self.now)
-            out.old out.new) }
+        ensures ok { OnOk result (WritesBase base.now.records (days_in self.now)
+            (W.state out.old) (W.state out.new)) }
         ensures err { IfErr result (λ fault.
-            RefusesBase W.taken W.failures base.now.records (days_in self.now) out.old out.new
-            fault) }
-        ensures device { W.device out.new ≡ W.device out.old }
+            RefusesBase W.state base.now.records (days_in self.now) out.old out.new fault) }
 
         // The bytes read back to the same itinerary on each date, and the export of what was read
         // is the same bytes.
-        ensures reads_back { OnOk result
-            (ReadsBackBase W.taken base.now.records (days_in self.now) out.old out.new) }
+        ensures reads_back { OnOk result (ReadsBackBase base.now.records (days_in self.now)
+            (W.state out.old) (W.state out.new)) }
     {
         let frame = base.frame();
         let own = self.copy()?;
@@ -124,16 +121,15 @@ impl Schedule {
     /// Writes the canonical export in this frame, as `export` does in the frame of a base. Parts
     /// that no copy of the schedule shares are freed flight by flight.
     pub fn export_in<W: Sink>(self, frame: &BaseFrame, out: &mut W) -> Result<(), ExportFault>
-        ensures ok { OnOk result (Writes W.taken W.failures (chapter7 frame.now (days_in self))
-            out.old out.new) }
+        ensures ok { OnOk result (Writes (chapter7 frame.now (days_in self))
+            (W.state out.old) (W.state out.new)) }
         ensures err { IfErr result (λ fault.
-            Refuses W.taken W.failures (chapter7 frame.now (days_in self)) out.old out.new fault) }
-        ensures device { W.device out.new ≡ W.device out.old }
+            Refuses W.state (chapter7 frame.now (days_in self)) out.old out.new fault) }
 
         // The bytes read back to the same itinerary on each date, and the export of what was read
         // is the same bytes.
         ensures reads_back { OnOk result ((bytes : List ℕ)
-            × Appends (W.taken out.old) (W.taken out.new) bytes
+            × Appends (W.state out.old).taken (W.state out.new).taken bytes
             × ReadsBackFrom frame.now (days_in self) bytes) }
     {
         export_bytes_read_back();
@@ -147,16 +143,15 @@ impl Schedule {
 /// `Schedule::export` do. The records are freed while the timetable is made, so it takes the memory
 /// of one of the two. 90 can also mean that there is no memory for the timetable.
 pub fn export_data_set<W: Sink>(data_set: DataSet, out: &mut W) -> Result<(), ExportFault>
-    ensures ok { OnOk result (WritesBase W.taken W.failures data_set (days_of data_set) out.old
-        out.new) }
-    ensures err { IfErr result (λ fault. RefusesBase W.taken W.failures data_set (days_of data_set)
-        out.old out.new fault) }
-    ensures device { W.device out.new ≡ W.device out.old }
+    ensures ok { OnOk result (WritesBase data_set (days_of data_set)
+        (W.state out.old) (W.state out.new)) }
+    ensures err { IfErr result (λ fault.
+        RefusesBase W.state data_set (days_of data_set) out.old out.new fault) }
 
     // The bytes read back to the same itinerary on each date, and the export of what was read is
     // the same bytes.
-    ensures reads_back { OnOk result
-        (ReadsBackBase W.taken data_set (days_of data_set) out.old out.new) }
+    ensures reads_back { OnOk result (ReadsBackBase data_set (days_of data_set)
+        (W.state out.old) (W.state out.new)) }
 {
     let (schedule, frame) = Schedule::of_data_set(data_set)?;
     schedule.export_in(&frame, out)
@@ -172,13 +167,12 @@ fn export_frame<W: Sink>(
     alloc: Global,
     out: &mut W,
 ) -> Result<(), ExportFault>
-    ensures ok { OnOk result (Writes W.taken W.failures
-        (chapter7 (frame_from header.now carrier.now trailer.now) (table_days table)) out.old
-        out.new) }
-    ensures err { IfErr result (λ fault.
-        Refuses W.taken W.failures (chapter7 (frame_from header.now carrier.now trailer.now)
-        (table_days table)) out.old out.new fault) }
-    ensures device { W.device out.new ≡ W.device out.old }
+    ensures ok { OnOk result (Writes
+        (chapter7 (frame_from header.now carrier.now trailer.now) (table_days table))
+        (W.state out.old) (W.state out.new)) }
+    ensures err { IfErr result (λ fault. Refuses W.state
+        (chapter7 (frame_from header.now carrier.now trailer.now) (table_days table))
+        out.old out.new fault) }
 
     // The legs that were written are legs that records may have.
     ensures readable { OnOk result (IsTimetable (table_days table)

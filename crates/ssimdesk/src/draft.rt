@@ -40,9 +40,7 @@ impl<W: Write + Drop> Draft<W> {
 }
 
 impl<W: Write + Drop> Sink for Draft<W> {
-    ghost taken = { λ _. None };
-
-    ghost failures = { λ s. s.failures };
+    ghost state = { λ s. record { taken = None; failures = s.failures; device = 0 } };
 
     fn put(&mut self, bytes: &[u8]) -> Result<usize, DeviceFault> {
         match self.writer.write(bytes) {

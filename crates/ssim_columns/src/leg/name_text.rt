@@ -1,10 +1,10 @@
 //! The names of legs with their texts, as records of types 3 and 4 have them in columns 2 to 13.
 
-ghost use Rattle.std.specs.Prelude.{◌≡◌, ◌<◌, ◌↔◌, IsTrue, Some, length, slice_index};
+ghost use Rattle.std.specs.Prelude.{◌≡◌, ◌<◌, ◌↔◌, IsTrue, length, slice_index};
 ghost use Rattle.std.specs.List.{concat};
 ghost use Rattle.ssim_columns.specs.Heads.{HasDigits};
-ghost use Rattle.ssim_columns.specs.Leg.{AreLegColumns, name_texts, written_leg};
-ghost use Rattle.ssim_columns.specs.Segment.{IsTail, written_segment};
+ghost use Rattle.ssim_columns.specs.Leg.{AreLegColumns, exported_leg, name_texts, written_leg};
+ghost use Rattle.ssim_columns.specs.Segment.{IsTail, exported_segment, written_segment};
 
 use crate::leg::leg_columns::LegColumns;
 use crate::leg::leg_name::LegName;
@@ -78,16 +78,7 @@ impl NameText {
         requires serial { serial < 1000000 }
         requires room { length out.old ≡ 200 }
         ensures value { out.new ≡ written_leg
-            (record {
-              name = self.now;
-              first = period.now.first;
-              last = Some period.now.last;
-              days = period.now.days;
-              rate = 32;
-              columns = columns.now;
-              overflow = 32;
-              serial = serial;
-            }) }
+            (exported_leg self.now period.now columns.now serial) }
         ensures columns { AreLegColumns columns.now }
     {
         write_leg(out, &self.text, period.text(), b' ', columns, b' ', serial);
@@ -105,13 +96,7 @@ impl NameText {
         requires serial { serial < 1000000 }
         requires room { length out.old ≡ 200 }
         ensures value { out.new ≡ written_segment
-            (record {
-              name = self.now;
-              service = slice_index columns.now 0;
-              tail = tail.now;
-              overflow = 32;
-              serial = serial;
-            }) }
+            (exported_segment self.now (slice_index columns.now 0) tail.now serial) }
         ensures tail { IsTail tail.now }
     {
         let service = columns.bytes_held()[0];

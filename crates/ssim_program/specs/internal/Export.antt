@@ -1,5 +1,5 @@
 -- What an export leaves on a printer.
-use Rattle.std.specs.Prelude.{◌≡◌, ◌⊎◌, ℕ, true, List, Option, IfErr, OnOk, Result, Ok, Err}
+use Rattle.std.specs.Prelude.{◌≡◌, ◌⊎◌, ℕ, true, List, IfErr, OnOk, Result, Ok, Err}
 use Rattle.ssim_values.specs.Flight.{FlightNumber}
 use Rattle.ssim_records.specs.declared.record.Record.{Record}
 use Rattle.ssim_schedule.specs.ExportResult.{ReadsBackBase, RefusesBase, WritesBase}
@@ -7,26 +7,17 @@ use Rattle.ssim_base.specs.Timetable.{Days}
 use Rattle.ssim_schedule.specs.declared.export.ExportFault.{ExportFault}
 use Rattle.ssim_program.specs.Again.{GrowsByItself}
 use Rattle.ssim_program.specs.Made.{IsExport}
-use Rattle.ssim_program.specs.print.Paper.{Breaks, Grows, Paper}
+use Rattle.ssim_program.specs.print.Paper.{Breaks, Grows, Paper, writer_of}
 use Rattle.ssim_program.specs.print.Reasons.{RefusesExport}
 use Rattle.ssim_program.specs.declared.refusal.Refusal.{Refusal}
 use Rattle.ssim_program.specs.declared.refusal.Refusal.TheVariants as refused
 
--- what a printer has taken
-abbrev pub taken_of : Paper → Option (List ℕ)
-taken_of p = p.taken
-
--- the number of a printer's failures
-abbrev pub failures_of : Paper → ℕ
-failures_of p = p.failures
-
 -- an export of a timetable of these days was written, or was refused
 pub record IsWritten (base : List Record) (days : FlightNumber → Days) (before after : Paper)
     (written : Result (Unit {0}) ExportFault) : Type 0 where
-  pub ok : OnOk written (WritesBase taken_of failures_of base days before after)
-  pub err : IfErr written (RefusesBase taken_of failures_of base days before after)
-  pub device : after.device ≡ before.device
-  pub reads_back : OnOk written (ReadsBackBase taken_of base days before after)
+  pub ok : OnOk written (WritesBase base days (writer_of before) (writer_of after))
+  pub err : IfErr written (RefusesBase writer_of base days before after)
+  pub reads_back : OnOk written (ReadsBackBase base days (writer_of before) (writer_of after))
 
 -- The export is printed, and reads back as itself. Or there is no export, and the printer is
 -- unchanged. Or a call of the printer fails, and the printer has taken a prefix of the export.

@@ -14,9 +14,10 @@ Prints bytes before after (Ok x) = Grows bytes before after × (after.flushed �
 Prints bytes before after (Err refusal) = (refusal ≡ refused.WriteFault) × Breaks bytes before after
 
 -- the bytes are printed, and not yet flushed; or a call fails, and the refusal is 52
-abbrev pub Puts : List ℕ → Paper → Paper → Result (Unit {0}) Refusal → Type 0
-Puts bytes before after (Ok x) = Grows bytes before after
-Puts bytes before after (Err refusal) = (refusal ≡ refused.WriteFault) × Breaks bytes before after
+abbrev pub PrintsPart : List ℕ → Paper → Paper → Result (Unit {0}) Refusal → Type 0
+PrintsPart bytes before after (Ok x) = Grows bytes before after
+PrintsPart bytes before after (Err refusal) =
+    (refusal ≡ refused.WriteFault) × Breaks bytes before after
 
 -- a reference without its originator: the kind, the date and the serials, each after a blank
 abbrev pub without_originator : Reference → List ℕ

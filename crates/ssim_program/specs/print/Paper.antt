@@ -1,7 +1,7 @@
 -- What a printer has printed, and what a call of it leaves.
-use Rattle.std.specs.Prelude.{◌≡◌, ◌⊎◌, ℕ, ◌+◌, ◌%◌, ◌^◌, Bool, List, Option}
-use Rattle.std.specs.Io.KnownBytes.{Appends}
-use Rattle.ssim_base.specs.Sinks.{TakesPrefix}
+use Rattle.std.specs.Prelude.{◌⊎◌, ℕ, Bool, List, Option}
+use Rattle.ssim_records.specs.Device.{Writer}
+use Rattle.ssim_base.specs.Sinks as sink
 
 -- The bytes that were taken, if the contract knows them; how many calls failed, a count that wraps;
 -- whether the latest call was a flush that did not fail; and the writer that the bytes go to.
@@ -11,17 +11,17 @@ pub record Paper : Type 0 where
   pub flushed : Bool
   pub device : ℕ
 
+-- a printer as a sink
+abbrev pub writer_of : Paper → Writer
+writer_of p = record { taken = p.taken; failures = p.failures; device = p.device }
+
 -- exactly these bytes were taken, and no call failed
-pub record Grows (bytes : List ℕ) (before after : Paper) : Type 0 where
-  pub taken : Appends before.taken after.taken bytes
-  pub failures : after.failures ≡ before.failures
-  pub device : after.device ≡ before.device
+abbrev pub Grows : List ℕ → Paper → Paper → Type 0
+Grows bytes before after = sink.Grows bytes (writer_of before) (writer_of after)
 
 -- a call failed, and a prefix of these bytes was taken
-pub record Breaks (bytes : List ℕ) (before after : Paper) : Type 0 where
-  pub taken : TakesPrefix bytes before.taken after.taken
-  pub failures : after.failures ≡ (before.failures + 1) % 2 ^ 64
-  pub device : after.device ≡ before.device
+abbrev pub Breaks : List ℕ → Paper → Paper → Type 0
+Breaks bytes before after = sink.Breaks bytes (writer_of before) (writer_of after)
 
 -- all of the bytes were taken, or a call failed
 abbrev pub PrintsOrFails : List ℕ → Paper → Paper → Type 0

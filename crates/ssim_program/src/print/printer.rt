@@ -2,10 +2,11 @@
 
 ghost use Rattle.std.specs.Prelude.{◌≡◌, false, []};
 ghost use Rattle.std.specs.List.{flat_map};
-ghost use Rattle.ssim_program.specs.print.Paper.{Paper, PrintsOrFails};
-ghost use Rattle.ssim_program.specs.internal.Print.{Prints, Puts};
+ghost use Rattle.ssim_program.specs.print.Paper.{Paper, PrintsOrFails, writer_of};
+ghost use Rattle.ssim_program.specs.internal.Print.{Prints, PrintsPart};
 
 use crate::refusal::Refusal;
+use ssim_base::put_all;
 use ssim_records::{DeviceFault, Sink};
 use std::io::Write;
 use std::marker::Model;
@@ -67,11 +68,7 @@ impl<'w, W: Write> Printer<'w, W> {
 }
 
 impl<W: Write> Sink for Printer<'_, W> {
-    ghost taken = { λ p. p.taken };
-
-    ghost failures = { λ p. p.failures };
-
-    ghost device = { λ p. p.device };
+    ghost state = { writer_of };
 
     fn put(&mut self, bytes: &[u8]) -> Result<usize, DeviceFault> {
         self.flushed = false;
@@ -92,26 +89,22 @@ impl<W: Write> Sink for Printer<'_, W> {
 
 /// Prints all of the bytes, however many the writer takes at a time, without a flush. Returns 52 if
 /// the writer failed, or took no byte of some.
-fn put_all<W: Write>(out: &mut Printer<'_, W>, bytes: &[u8]) -> Result<(), Refusal>
-    ensures { Puts bytes.now out.old out.new result }
+fn put_part<W: Write>(out: &mut Printer<'_, W>, bytes: &[u8]) -> Result<(), Refusal>
+    ensures { PrintsPart bytes.now out.old out.new result }
 {
-    let mut rest = bytes;
-    while !rest.is_empty() {
-        match out.put(rest) {
-            Ok(0) | Err(_) => return Err(Refusal::WriteFault),
-            Ok(n) => rest = rest.split_at(n).1,
-        }
+    match put_all(out, bytes) {
+        Ok(()) => Ok(()),
+        Err(_) => Err(Refusal::WriteFault),
     }
-    Ok(())
 }
 
 /// Prints the parts of a text one after another, without a flush. Returns 52 as [`print_all`] does,
 /// and then prints no further part.
 pub(crate) fn put_parts<W: Write>(out: &mut Printer<'_, W>, parts: &[&[u8]]) -> Result<(), Refusal>
-    ensures { Puts (flat_map (λ part. part.now) parts.now) out.old out.new result }
+    ensures { PrintsPart (flat_map (λ part. part.now) parts.now) out.old out.new result }
 {
     for part in parts {
-        put_all(out, part)?;
+        put_part(out, part)?;
     }
     Ok(())
 }
@@ -121,7 +114,7 @@ pub(crate) fn put_parts<W: Write>(out: &mut Printer<'_, W>, parts: &[&[u8]]) -> 
 pub(crate) fn print_all<W: Write>(out: &mut Printer<'_, W>, bytes: &[u8]) -> Result<(), Refusal>
     ensures { Prints bytes.now out.old out.new result }
 {
-    put_all(out, bytes)?;
+    put_part(out, bytes)?;
     out.flush()
 }
 

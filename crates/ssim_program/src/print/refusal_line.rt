@@ -4,7 +4,7 @@ ghost use Rattle.std.specs.Prelude.{◌++◌, ◌∷◌, codes, decimal};
 ghost use Rattle.ssim_values.specs.Designator.{designator_text};
 ghost use Rattle.ssim_text.specs.Reference.{printed_originator, printed_reference};
 ghost use Rattle.ssim_base.specs.Export.{line};
-ghost use Rattle.ssim_program.specs.internal.Print.{Prints, Puts, without_originator};
+ghost use Rattle.ssim_program.specs.internal.Print.{Prints, PrintsPart, without_originator};
 ghost use Rattle.ssim_program.specs.print.Refusal.{named_text, place_text, refusal_file};
 ghost use Rattle.ssim_program.specs.print.Refusal.{refusal_head};
 ghost use Rattle.ssim_program.specs.print.Refusal.{refusal_place, refusal_text};
@@ -32,7 +32,7 @@ pub(crate) fn print_refusal<W: Write>(
 
 /// Prints `refused`, the number and the name.
 fn put_head<W: Write>(refusal: &Refusal, err: &mut Printer<'_, W>) -> Result<(), Refusal>
-    ensures { Puts (refusal_head refusal.now) err.old err.new result }
+    ensures { PrintsPart (refusal_head refusal.now) err.old err.new result }
 {
     let mut digits = Buffer::new();
     let number = digits.format(refusal.number()).as_bytes();
@@ -42,7 +42,7 @@ fn put_head<W: Write>(refusal: &Refusal, err: &mut Printer<'_, W>) -> Result<(),
 
 /// Prints what a refusal names: the file of 91, or its place.
 fn put_named<W: Write>(refusal: &Refusal, err: &mut Printer<'_, W>) -> Result<(), Refusal>
-    ensures { Puts (named_text (refusal_file refusal.now) (refusal_place refusal.now))
+    ensures { PrintsPart (named_text (refusal_file refusal.now) (refusal_place refusal.now))
         err.old err.new result }
 {
     match refusal.file() {
@@ -53,7 +53,7 @@ fn put_named<W: Write>(refusal: &Refusal, err: &mut Printer<'_, W>) -> Result<()
 
 /// Prints a place, after a blank.
 fn put_place<W: Write>(place: Place, err: &mut Printer<'_, W>) -> Result<(), Refusal>
-    ensures { Puts (place_text place) err.old err.new result }
+    ensures { PrintsPart (place_text place) err.old err.new result }
 {
     match place {
         Place::Nowhere => Ok(()),
@@ -69,7 +69,7 @@ fn put_place<W: Write>(place: Place, err: &mut Printer<'_, W>) -> Result<(), Ref
 
 /// Prints a number after its label.
 fn put_number<W: Write>(label: &[u8], number: u64, err: &mut Printer<'_, W>) -> Result<(), Refusal>
-    ensures { Puts (label.now ++ decimal number) err.old err.new result }
+    ensures { PrintsPart (label.now ++ decimal number) err.old err.new result }
 {
     let mut digits = Buffer::new();
     put_parts(err, &[label, digits.format(number).as_bytes()])
@@ -77,7 +77,7 @@ fn put_number<W: Write>(label: &[u8], number: u64, err: &mut Printer<'_, W>) -> 
 
 /// Prints the number of a record and a column of it.
 fn put_column<W: Write>(number: u64, column: usize, err: &mut Printer<'_, W>) -> Result<(), Refusal>
-    ensures { Puts (codes " record " ++ decimal number ++ codes " column " ++ decimal column)
+    ensures { PrintsPart (codes " record " ++ decimal number ++ codes " column " ++ decimal column)
         err.old err.new result }
 {
     let mut of_record = Buffer::new();
@@ -89,7 +89,7 @@ fn put_column<W: Write>(number: u64, column: usize, err: &mut Printer<'_, W>) ->
 
 /// Prints a flight.
 fn put_flight<W: Write>(flight: Designator, err: &mut Printer<'_, W>) -> Result<(), Refusal>
-    ensures { Puts (codes " flight " ++ designator_text flight) err.old err.new result }
+    ensures { PrintsPart (codes " flight " ++ designator_text flight) err.old err.new result }
 {
     let designator = flight.write();
     put_parts(err, &[b" flight ", designator.as_slice()])
@@ -97,7 +97,7 @@ fn put_flight<W: Write>(flight: Designator, err: &mut Printer<'_, W>) -> Result<
 
 /// Prints the reference of a message, after a blank.
 fn put_message<W: Write>(reference: &Reference, err: &mut Printer<'_, W>) -> Result<(), Refusal>
-    ensures { Puts (32 ∷ printed_reference reference.now) err.old err.new result }
+    ensures { PrintsPart (32 ∷ printed_reference reference.now) err.old err.new result }
 {
     put_serials(reference, err)?;
     put_originator(reference.originator, err)
@@ -105,7 +105,7 @@ fn put_message<W: Write>(reference: &Reference, err: &mut Printer<'_, W>) -> Res
 
 /// Prints the kind, the date and the serials of a reference, each after a blank.
 fn put_serials<W: Write>(reference: &Reference, err: &mut Printer<'_, W>) -> Result<(), Refusal>
-    ensures { Puts (without_originator reference.now) err.old err.new result }
+    ensures { PrintsPart (without_originator reference.now) err.old err.new result }
 {
     let kind = reference.kind.name().as_bytes();
     let date = reference.date.write();
@@ -116,7 +116,7 @@ fn put_serials<W: Write>(reference: &Reference, err: &mut Printer<'_, W>) -> Res
 
 /// Prints an originator after a blank, or nothing if it is blank.
 fn put_originator<W: Write>(originator: Originator, err: &mut Printer<'_, W>) -> Result<(), Refusal>
-    ensures { Puts (printed_originator originator) err.old err.new result }
+    ensures { PrintsPart (printed_originator originator) err.old err.new result }
 {
     if originator.is_none() {
         return Ok(());

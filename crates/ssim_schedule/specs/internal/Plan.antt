@@ -1,12 +1,16 @@
 -- What is to be exported, flight by flight: pieces instead of days.
-use Rattle.std.specs.Prelude.{◌≡◌, ℕ, ◌+◌, ◌&&◌, nat_lt, if◌then◌else◌, List, [], ◌∷◌, map, length, Option, Some, None}
+use Rattle.std.specs.Prelude.{◌≡◌, ℕ, ◌+◌, ◌&&◌, nat_lt, if◌then◌else◌, List, [], ◌∷◌, map, length, slice_index, Option, Some, None}
 use Rattle.std.specs.List.{flat_map, All}
+use Rattle.ssim_values.specs.Flight.{FlightNumber}
+use Rattle.ssim_values.specs.Period.{DayRange}
+use Rattle.ssim_records.specs.Leg.{Name}
 use Rattle.ssim_records.specs.Record.{written}
 use Rattle.ssim_records.specs.declared.record.Record.{Record}
 use Rattle.ssim_base.specs.ReadBack.{IsWritable}
+use Rattle.ssim_base.specs.Timetable.{Legs}
 use Rattle.ssim_schedule.specs.internal.SharedLegs.{legs_count}
 use Rattle.ssim_base.specs.Export as refusal
-use Rattle.ssim_base.specs.Export.{ExportRefusal, Frame, Piece, export_bytes, line, numbered, pieces, pieces_records, sections}
+use Rattle.ssim_base.specs.Export.{ExportRefusal, Frame, Piece, export_bytes, leg_records, line, numbered, pieces, pieces_records, section_bytes, sections, tail_record}
 use Rattle.ssim_schedule.specs.FlightPieces.{Divided}
 use Rattle.ssim_schedule.specs.internal.Table.{Table}
 use Rattle.ssim_schedule.specs.declared.export.ExportFault.{ExportFault}
@@ -57,6 +61,29 @@ plan_refusal count (p ∷ plan) =
 -- the records as lines, with serials from n on
 abbrev pub numbered_lines : ℕ → List Record → List ℕ
 numbered_lines n records = flat_map (λ r. line (written r)) (numbered n records)
+
+-- the lines of the tails of a leg with these columns
+abbrev pub tail_lines : Name → List ℕ → ℕ → List (List ℕ) → List ℕ
+tail_lines name columns n tails =
+    numbered_lines n (map (tail_record name (slice_index columns 0)) tails)
+
+-- the lines of the legs of a piece
+abbrev pub leg_lines : List ℕ → FlightNumber → ℕ → DayRange → ℕ → Legs → List ℕ
+leg_lines airline flight variation period n legs =
+    numbered_lines n (flat_map (leg_records airline flight variation period) legs)
+
+-- the lines of pieces of a flight, with itinerary variations from `variation` on
+abbrev pub piece_lines : List ℕ → FlightNumber → ℕ → ℕ → List Piece → List ℕ
+piece_lines airline flight variation n pieces =
+    numbered_lines n (pieces_records airline flight variation pieces)
+
+-- the lines of a plan
+abbrev pub plan_lines : List ℕ → ℕ → List Divided → List ℕ
+plan_lines airline n plan = numbered_lines n (plan_records airline plan)
+
+-- the bytes of a section of one record
+unfoldable pub alone_bytes : Record → List ℕ
+alone_bytes one = section_bytes (one ∷ [])
 
 -- the bytes of a plan's export
 unfoldable pub plan_bytes : Frame → List Divided → List ℕ

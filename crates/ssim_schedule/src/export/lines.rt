@@ -1,15 +1,16 @@
 //! The lines of an export, written from a plan.
 
-ghost use Rattle.std.specs.Prelude.{◌≡◌, ◌≤◌, ◌<◌, ◌+◌, ◌++◌, [], ◌∷◌, List, length, map, slice_index, IfOk, OnOk, OnErr};
-ghost use Rattle.std.specs.List.{All, flat_map};
-ghost use Rattle.std.specs.Io.KnownBytes.{Appends};
-ghost use Rattle.ssim_records.specs.Leg.{LegFields};
+ghost use Rattle.std.specs.Prelude.{◌≡◌, ◌≤◌, ◌<◌, ◌+◌, ◌++◌, length, IfOk, OnOk};
+ghost use Rattle.std.specs.List.{All};
 ghost use Rattle.ssim_records.specs.Segment.{IsTail};
-ghost use Rattle.ssim_base.specs.Export.{fill_count, frame_from, leg_records, numbered, pieces_records, section_bytes, tail_record};
-ghost use Rattle.ssim_schedule.specs.internal.Plan.{HasWritableLegs, HasWritablePieces, numbered_lines, pieces_count, plan_bytes, plan_count, plan_records};
+ghost use Rattle.ssim_base.specs.Export.{fill_count, frame_from, numbered, section_bytes};
+ghost use Rattle.ssim_schedule.specs.internal.Plan.{HasWritableLegs, HasWritablePieces};
+ghost use Rattle.ssim_schedule.specs.internal.Plan.{alone_bytes, leg_lines, piece_lines};
+ghost use Rattle.ssim_schedule.specs.internal.Plan.{pieces_count, plan_bytes, plan_count};
+ghost use Rattle.ssim_schedule.specs.internal.Plan.{plan_lines, plan_records, tail_lines};
 ghost use Rattle.ssim_schedule.specs.internal.SharedLegs.{legs_count};
 ghost use Rattle.ssim_base.specs.ReadBack.{IsWritable};
-ghost use Rattle.ssim_base.specs.Sinks.{CountsFault, TakesPrefix, TakesUpTo};
+ghost use Rattle.ssim_base.specs.Sinks.{Puts, PutsUpTo};
 
 use crate::export::plan::FlightPieces;
 use crate::itinerary::Itinerary;
@@ -30,14 +31,9 @@ pub(crate) fn put_export<W: Sink>(
 ) -> Result<(), WriteFault>
     requires few { All (λ p. length p.1 ≤ 99) plan.items }
     requires room { 3 + plan_count plan.items < 1000000 }
-    ensures ok { OnOk result (Appends (W.taken out.old) (W.taken out.new)
-        (plan_bytes (frame_from header.now carrier.now trailer.now) plan.items)) }
+    ensures puts { Puts (plan_bytes (frame_from header.now carrier.now trailer.now) plan.items)
+        (W.state out.old) (W.state out.new) result }
     ensures writable { OnOk result (All HasWritablePieces plan.items) }
-    ensures err { OnErr result (TakesPrefix
-        (plan_bytes (frame_from header.now carrier.now trailer.now) plan.items) (W.taken out.old)
-        (W.taken out.new)) }
-    ensures failures { CountsFault (W.failures out.old) (W.failures out.new) result }
-    ensures device { W.device out.new ≡ W.device out.old }
 {
     let mut block = OutputBuffer::new();
     put_alone(out, &mut block, &Record::Header(header.with_serial(1)))?;
@@ -53,12 +49,8 @@ pub(crate) fn put_export<W: Sink>(
 
 // Puts one record, and fill up to five records.
 fn put_alone<W: Sink>(out: &mut W, block: &mut OutputBuffer, one: &Record) -> Result<(), WriteFault>
-    ensures ok { OnOk result (TakesUpTo (block.old ++ section_bytes (one.now ∷ [])) block.new
-        (W.taken out.old) (W.taken out.new)) }
-    ensures err { OnErr result (TakesPrefix (block.old ++ section_bytes (one.now ∷ []))
-        (W.taken out.old) (W.taken out.new)) }
-    ensures failures { CountsFault (W.failures out.old) (W.failures out.new) result }
-    ensures device { W.device out.new ≡ W.device out.old }
+    ensures { PutsUpTo (block.old ++ alone_bytes one.now) block.new
+        (W.state out.old) (W.state out.new) result }
 {
     put_record(out, block, one)?;
     put_fill(out, block, 4)
@@ -74,15 +66,10 @@ fn put_body<W: Sink>(
     requires few { All (λ p. length p.1 ≤ 99) plan.items }
     requires room { 3 + plan_count plan.items ≤ 1000000 }
     ensures next { IfOk result (λ next. next ≡ 3 + plan_count plan.items) }
-    ensures ok { OnOk result (TakesUpTo
+    ensures puts { PutsUpTo
         (block.old ++ section_bytes (numbered 3 (plan_records airline plan.items))) block.new
-        (W.taken out.old) (W.taken out.new)) }
+        (W.state out.old) (W.state out.new) result }
     ensures writable { OnOk result (All HasWritablePieces plan.items) }
-    ensures err { OnErr result (TakesPrefix
-        (block.old ++ section_bytes (numbered 3 (plan_records airline plan.items)))
-        (W.taken out.old) (W.taken out.new)) }
-    ensures failures { CountsFault (W.failures out.old) (W.failures out.new) result }
-    ensures device { W.device out.new ≡ W.device out.old }
 {
     let next = put_flights(out, block, airline, plan, 3)?;
     put_fill(out, block, fill_count(next as usize - 3))?;
@@ -106,15 +93,9 @@ fn put_flights<W: Sink>(
     requires few { All (λ p. length p.1 ≤ 99) plan.items }
     requires room { serial + plan_count plan.items ≤ 1000000 }
     ensures next { IfOk result (λ next. next ≡ serial + plan_count plan.items) }
-    ensures ok { OnOk result (TakesUpTo
-        (block.old ++ numbered_lines serial (plan_records airline plan.items)) block.new
-        (W.taken out.old) (W.taken out.new)) }
+    ensures puts { PutsUpTo (block.old ++ plan_lines airline serial plan.items) block.new
+        (W.state out.old) (W.state out.new) result }
     ensures writable { OnOk result (All HasWritablePieces plan.items) }
-    ensures err { OnErr result (TakesPrefix
-        (block.old ++ numbered_lines serial (plan_records airline plan.items)) (W.taken out.old)
-        (W.taken out.new)) }
-    ensures failures { CountsFault (W.failures out.old) (W.failures out.new) result }
-    ensures device { W.device out.new ≡ W.device out.old }
 {
     let mut next = serial;
     for planned in plan {
@@ -142,15 +123,9 @@ fn put_pieces<W: Sink>(
     requires few { length pieces.now ≤ 99 }
     requires room { serial + pieces_count pieces.now ≤ 1000000 }
     ensures next { IfOk result (λ next. next ≡ serial + pieces_count pieces.now) }
-    ensures ok { OnOk result (TakesUpTo
-        (block.old ++ numbered_lines serial (pieces_records airline flight 1 pieces.now)) block.new
-        (W.taken out.old) (W.taken out.new)) }
+    ensures puts { PutsUpTo (block.old ++ piece_lines airline flight 1 serial pieces.now) block.new
+        (W.state out.old) (W.state out.new) result }
     ensures writable { OnOk result (All HasWritableLegs pieces.now) }
-    ensures err { OnErr result (TakesPrefix
-        (block.old ++ numbered_lines serial (pieces_records airline flight 1 pieces.now))
-        (W.taken out.old) (W.taken out.new)) }
-    ensures failures { CountsFault (W.failures out.old) (W.failures out.new) result }
-    ensures device { W.device out.new ≡ W.device out.old }
 {
     let mut next = serial;
     let mut variation = 1;
@@ -185,17 +160,10 @@ fn put_legs<W: Sink>(
     requires variation { variation < 100 }
     requires room { serial + legs_count legs.now ≤ 1000000 }
     ensures next { IfOk result (λ next. next ≡ serial + legs_count legs.now) }
-    ensures ok { OnOk result (TakesUpTo
-        (block.old ++ numbered_lines serial
-        (flat_map (leg_records airline flight variation period) legs.now)) block.new
-        (W.taken out.old) (W.taken out.new)) }
+    ensures puts { PutsUpTo
+        (block.old ++ leg_lines airline flight variation period serial legs.now) block.new
+        (W.state out.old) (W.state out.new) result }
     ensures writable { OnOk result (All IsWritable legs.now) }
-    ensures err { OnErr result (TakesPrefix
-        (block.old ++ numbered_lines serial
-        (flat_map (leg_records airline flight variation period) legs.now)) (W.taken out.old)
-        (W.taken out.new)) }
-    ensures failures { CountsFault (W.failures out.old) (W.failures out.new) result }
-    ensures device { W.device out.new ≡ W.device out.old }
 {
     let dates = PeriodText::new(period);
     let mut next = serial;
@@ -219,17 +187,10 @@ fn put_tails<W: Sink>(
 ) -> Result<u32, WriteFault>
     requires { serial + length tails.now ≤ 1000000 }
     ensures next { IfOk result (λ next. next ≡ serial + length tails.now) }
-    ensures ok { OnOk result (TakesUpTo
-        (block.old ++ numbered_lines serial
-        (map (tail_record name.now (slice_index columns.now 0)) tails.now)) block.new
-        (W.taken out.old) (W.taken out.new)) }
+    ensures puts { PutsUpTo
+        (block.old ++ tail_lines name.now columns.now serial tails.now) block.new
+        (W.state out.old) (W.state out.new) result }
     ensures writable { OnOk result (All IsTail tails.now) }
-    ensures err { OnErr result (TakesPrefix
-        (block.old ++ numbered_lines serial
-        (map (tail_record name.now (slice_index columns.now 0)) tails.now)) (W.taken out.old)
-        (W.taken out.new)) }
-    ensures failures { CountsFault (W.failures out.old) (W.failures out.new) result }
-    ensures device { W.device out.new ≡ W.device out.old }
 {
     let mut next = serial;
     for tail in tails {

@@ -1,56 +1,48 @@
 -- The first line, the records and the rows, one after another.
 use Rattle.std.proofs.Common.{◌++◌, codes}
-use Rattle.ssim_base.proofs.SinkLemmas.{at_fault, halt_last, if_err, if_ok, step_last}
+use Rattle.ssim_base.proofs.SinkLemmas.{fails, part_fails, part_then, then_fails}
 use Rattle.ssim_held.specs.File.{counted, records_part, rows_part}
-use Rattle.ssim_held.proofs.FileParts.{first_fails}
+use Rattle.ssim_held.specs.internal.DeskFileWriter.{base_part}
 use Rattle.ssim_held.proofs.desk_file_writer.put_base.Goals as goal
 
-pub returns-in_err-put_counted-clause-err : goal.returns-in_err-put_counted-clause-err
-returns-in_err-put_counted-clause-err g c =
-    let later = records_part c.args.records.now ++ rows_part c.args.rows.now in
-    at_fault c.from_residual.result
-    (first_fails c.args.block.now (counted (codes "SSIMDESK") 2) later (g.W.Sink.taken c.args.out.now)
-    (g.W.Sink.taken c.put_counted.new.out) c.in_err-put_counted.ensures.err)
+pub returns-in_err-put_counted-clause-puts : goal.returns-in_err-put_counted-clause-puts
+returns-in_err-put_counted-clause-puts g c =
+    let records = c.args.records.now in
+    let rows = c.args.rows.now in
+    let block = c.args.block.now in
+    let old = g.W.Sink.state c.args.out.now in
+    let new = g.W.Sink.state c.put_counted.new.out in
+    fails (block ++ base_part records rows) c.put_counted.new.block old new c.from_residual.result
+    c.from_residual.ensures.0
+    (part_fails block (counted (codes "SSIMDESK") 2) (records_part records ++ rows_part rows) old
+    new c.in_err-put_counted.ensures)
 
-pub returns-in_err-put_records-clause-err : goal.returns-in_err-put_records-clause-err
-returns-in_err-put_records-clause-err g c =
+pub returns-in_err-put_records-clause-puts : goal.returns-in_err-put_records-clause-puts
+returns-in_err-put_records-clause-puts g c =
     let records = records_part c.args.records.now in
     let rows = rows_part c.args.rows.now in
-    let h1 = c.put_counted.new.block in
-    let t0 = g.W.Sink.taken c.args.out.now in
-    let t1 = g.W.Sink.taken c.put_counted.new.out in
-    let t2 = g.W.Sink.taken c.put_records.new.out in
-    at_fault c.from_residual-in_err-put_records.result
-    (halt_last c.args.block.now (counted (codes "SSIMDESK") 2) (records ++ rows) h1 t0 t1 t2
-    c.in_ok-put_counted.ensures.ok (first_fails h1 records rows t1 t2 c.in_err-put_records.ensures.err))
+    let block = c.args.block.now in
+    let held = c.put_counted.new.block in
+    let old = g.W.Sink.state c.args.out.now in
+    let mid = g.W.Sink.state c.put_counted.new.out in
+    let new = g.W.Sink.state c.put_records.new.out in
+    fails (block ++ base_part c.args.records.now c.args.rows.now) c.put_records.new.block old new
+    c.from_residual-in_err-put_records.result c.from_residual-in_err-put_records.ensures.0
+    (then_fails block (counted (codes "SSIMDESK") 2) (records ++ rows) old mid held new
+    c.in_ok-put_counted.ensures
+    (part_fails held records rows mid new c.in_err-put_records.ensures))
 
-pub returns-clause-ok : goal.returns-clause-ok
-returns-clause-ok g c =
+pub returns-clause-puts : goal.returns-clause-puts
+returns-clause-puts g c =
     let records = records_part c.args.records.now in
     let rows = rows_part c.args.rows.now in
-    let h1 = c.put_counted.new.block in
-    let h2 = c.put_records.new.block in
-    let h3 = c.put_rows.new.block in
-    let t0 = g.W.Sink.taken c.args.out.now in
-    let t1 = g.W.Sink.taken c.put_counted.new.out in
-    let t2 = g.W.Sink.taken c.put_records.new.out in
-    let t3 = g.W.Sink.taken c.put_rows.new.out in
-    if_ok c.put_rows.result (λ put.
-    step_last c.args.block.now (counted (codes "SSIMDESK") 2) (records ++ rows) h1 h3 t0 t1 t3
-    c.in_ok-put_counted.ensures.ok
-    (step_last h1 records rows h2 h3 t1 t2 t3 c.in_ok-put_records.ensures.ok put)) c.put_rows.ensures.ok
-
-pub returns-clause-err : goal.returns-clause-err
-returns-clause-err g c =
-    let records = records_part c.args.records.now in
-    let rows = rows_part c.args.rows.now in
-    let h1 = c.put_counted.new.block in
-    let h2 = c.put_records.new.block in
-    let t0 = g.W.Sink.taken c.args.out.now in
-    let t1 = g.W.Sink.taken c.put_counted.new.out in
-    let t2 = g.W.Sink.taken c.put_records.new.out in
-    let t3 = g.W.Sink.taken c.put_rows.new.out in
-    if_err c.put_rows.result (λ put.
-    halt_last c.args.block.now (counted (codes "SSIMDESK") 2) (records ++ rows) h1 t0 t1 t3
-    c.in_ok-put_counted.ensures.ok
-    (halt_last h1 records rows h2 t1 t2 t3 c.in_ok-put_records.ensures.ok put)) c.put_rows.ensures.err
+    let held = c.put_counted.new.block in
+    let last = c.put_rows.new.block in
+    let first = g.W.Sink.state c.put_counted.new.out in
+    let second = g.W.Sink.state c.put_records.new.out in
+    let new = g.W.Sink.state c.put_rows.new.out in
+    let result = c.put_rows.result in
+    part_then c.args.block.now (counted (codes "SSIMDESK") 2) (records ++ rows)
+    (g.W.Sink.state c.args.out.now) first held last new result c.in_ok-put_counted.ensures
+    (part_then held records rows first second c.put_records.new.block last new result
+    c.in_ok-put_records.ensures c.put_rows.ensures.puts)

@@ -1,65 +1,84 @@
 -- The base, the texts and the last line, one after another, and then what the buffer holds.
-use Rattle.std.proofs.Common.{[]}
+use Rattle.std.proofs.Common.{List, ℕ, ◌++◌, Ok, Result, subst}
 use Rattle.ssim_base.specs.BaseSeen.{base_with}
-use Rattle.ssim_base.specs.Sinks.{TakesUpTo}
-use Rattle.ssim_base.proofs.SinkLemmas.{all_taken, at_fault, if_err, if_ok}
-use Rattle.ssim_base.proofs.SinkLemmas.{taken_all, then, then_front}
-use Rattle.ssim_held.specs.File.{desk_file}
-use Rattle.ssim_held.proofs.FileParts.{base_fails, end_fails, texts_fail, up_to_file}
-use Rattle.ssim_held.proofs.desk_file_writer.put_desk.Given as given
-use Rattle.ssim_held.proofs.desk_file_writer.put_desk.Goals.{After-flush}
+use Rattle.ssim_base.specs.Sinks.{Breaks, GrowsUpTo}
+use Rattle.ssim_base.proofs.SinkLemmas.{all_fail, part_fails, part_then, puts_all, then_fails}
+use Rattle.ssim_held.specs.File.{desk_file, end_line, texts_part}
+use Rattle.ssim_held.specs.internal.DeskFileWriter.{base_part}
+use Rattle.ssim_held.proofs.FileParts.{whole}
 use Rattle.ssim_held.proofs.desk_file_writer.put_desk.Goals as goal
 
-pub returns-in_err-put_base-clause-err : goal.returns-in_err-put_base-clause-err
-returns-in_err-put_base-clause-err g c =
-    at_fault c.from_residual.result
-    (base_fails c.args.records.now c.args.rows.now c.args.held.now c.new-block.result
-    (g.W.Sink.taken c.args.out.now) c.new-block.ensures (g.W.Sink.taken c.put_base.new.out)
-    c.in_err-put_base.ensures.err)
+pub returns-in_err-put_base-clause-puts : goal.returns-in_err-put_base-clause-puts
+returns-in_err-put_base-clause-puts g c =
+    let records = c.args.records.now in
+    let rows = c.args.rows.now in
+    let held = c.args.held.now in
+    let block = c.new-block.result in
+    let old = g.W.Sink.state c.args.out.now in
+    let new = g.W.Sink.state c.put_base.new.out in
+    all_fail (desk_file (base_with records rows) held) old new c.from_residual.result
+    c.from_residual.ensures.0
+    (subst (λ (bs : List ℕ). Breaks bs old new) (whole records rows held block c.new-block.ensures)
+    (part_fails block (base_part records rows) (texts_part held ++ end_line) old new
+    c.in_err-put_base.ensures.puts))
 
-pub returns-in_err-put_texts-clause-err : goal.returns-in_err-put_texts-clause-err
-returns-in_err-put_texts-clause-err g c =
-    at_fault c.from_residual-in_err-put_texts.result
-    (texts_fail c.args.records.now c.args.rows.now c.args.held.now c.new-block.result
-    (g.W.Sink.taken c.args.out.now) c.new-block.ensures c.put_base.new.block
-    (g.W.Sink.taken c.put_base.new.out) (g.W.Sink.taken c.put_texts.new.out)
-    c.in_ok-put_base.ensures.ok c.in_err-put_texts.ensures.err)
+pub returns-in_err-put_texts-clause-puts : goal.returns-in_err-put_texts-clause-puts
+returns-in_err-put_texts-clause-puts g c =
+    let records = c.args.records.now in
+    let rows = c.args.rows.now in
+    let held = c.args.held.now in
+    let block = c.new-block.result in
+    let after_base = c.put_base.new.block in
+    let old = g.W.Sink.state c.args.out.now in
+    let mid = g.W.Sink.state c.put_base.new.out in
+    let new = g.W.Sink.state c.put_texts.new.out in
+    all_fail (desk_file (base_with records rows) held) old new
+    c.from_residual-in_err-put_texts.result c.from_residual-in_err-put_texts.ensures.0
+    (subst (λ (bs : List ℕ). Breaks bs old new) (whole records rows held block c.new-block.ensures)
+    (then_fails block (base_part records rows) (texts_part held ++ end_line) old mid after_base new
+    c.in_ok-put_base.ensures.puts
+    (part_fails after_base (texts_part held) end_line mid new c.in_err-put_texts.ensures.puts)))
 
-pub returns-in_err-put_bytes-clause-err : goal.returns-in_err-put_bytes-clause-err
-returns-in_err-put_bytes-clause-err g c =
-    at_fault c.from_residual-in_err-put_bytes.result
-    (end_fails c.args.records.now c.args.rows.now c.args.held.now c.new-block.result
-    (g.W.Sink.taken c.args.out.now) c.new-block.ensures c.put_base.new.block
-    c.put_texts.new.block (g.W.Sink.taken c.put_base.new.out)
-    (g.W.Sink.taken c.put_texts.new.out) (g.W.Sink.taken c.put_bytes.new.out)
-    c.in_ok-put_base.ensures.ok c.in_ok-put_texts.ensures.ok c.in_err-put_bytes.ensures.err)
+pub returns-in_err-put_bytes-clause-puts : goal.returns-in_err-put_bytes-clause-puts
+returns-in_err-put_bytes-clause-puts g c =
+    let records = c.args.records.now in
+    let rows = c.args.rows.now in
+    let held = c.args.held.now in
+    let block = c.new-block.result in
+    let after_base = c.put_base.new.block in
+    let after_texts = c.put_texts.new.block in
+    let old = g.W.Sink.state c.args.out.now in
+    let first = g.W.Sink.state c.put_base.new.out in
+    let second = g.W.Sink.state c.put_texts.new.out in
+    let new = g.W.Sink.state c.put_bytes.new.out in
+    all_fail (desk_file (base_with records rows) held) old new
+    c.from_residual-in_err-put_bytes.result c.from_residual-in_err-put_bytes.ensures.0
+    (subst (λ (bs : List ℕ). Breaks bs old new) (whole records rows held block c.new-block.ensures)
+    (then_fails block (base_part records rows) (texts_part held ++ end_line) old first after_base
+    new c.in_ok-put_base.ensures.puts
+    (then_fails after_base (texts_part held) end_line first second after_texts new
+    c.in_ok-put_texts.ensures.puts c.in_err-put_bytes.ensures.puts)))
 
--- the file is put, up to what the buffer holds
-whole : (g : given.Over) (c : After-flush g)
-    → TakesUpTo (desk_file (base_with c.args.records.now c.args.rows.now) c.args.held.now)
-    c.put_bytes.new.block (g.W.Sink.taken c.args.out.now) (g.W.Sink.taken c.put_bytes.new.out)
-whole g c =
-    up_to_file c.args.records.now c.args.rows.now c.args.held.now c.new-block.result
-    (g.W.Sink.taken c.args.out.now) c.new-block.ensures c.put_base.new.block
-    c.put_texts.new.block c.put_bytes.new.block (g.W.Sink.taken c.put_base.new.out)
-    (g.W.Sink.taken c.put_texts.new.out) (g.W.Sink.taken c.put_bytes.new.out)
-    c.in_ok-put_base.ensures.ok c.in_ok-put_texts.ensures.ok c.in_ok-put_bytes.ensures.ok
-
-pub returns-clause-ok : goal.returns-clause-ok
-returns-clause-ok g c =
-    let h3 = c.put_bytes.new.block in
-    let t0 = g.W.Sink.taken c.args.out.now in
-    let t3 = g.W.Sink.taken c.put_bytes.new.out in
-    let t4 = g.W.Sink.taken c.flush.new.out in
-    if_ok c.flush.result
-    (λ put. all_taken _ t0 t4 (then _ h3 [] t0 t3 t4
-    (whole g (goal.at.returns-clause-ok g c).After-flush) (taken_all h3 t3 t4 put)))
-    c.flush.ensures.ok
-
-pub returns-clause-err : goal.returns-clause-err
-returns-clause-err g c =
-    if_err c.flush.result
-    (then_front _ c.put_bytes.new.block (g.W.Sink.taken c.args.out.now)
-    (g.W.Sink.taken c.put_bytes.new.out) (g.W.Sink.taken c.flush.new.out)
-    (whole g (goal.at.returns-clause-err g c).After-flush))
-    c.flush.ensures.err
+pub returns-clause-puts : goal.returns-clause-puts
+returns-clause-puts g c =
+    let records = c.args.records.now in
+    let rows = c.args.rows.now in
+    let held = c.args.held.now in
+    let block = c.new-block.result in
+    let after_base = c.put_base.new.block in
+    let last = c.put_bytes.new.block in
+    let old = g.W.Sink.state c.args.out.now in
+    let first = g.W.Sink.state c.put_base.new.out in
+    let second = g.W.Sink.state c.put_texts.new.out in
+    let third = g.W.Sink.state c.put_bytes.new.out in
+    let done : Result (Unit {0}) (Unit {0}) = Ok tt in
+    let file = desk_file (base_with records rows) held in
+    let put : GrowsUpTo file last old third =
+    subst (λ (bs : List ℕ). GrowsUpTo bs last old third)
+    (whole records rows held block c.new-block.ensures)
+    (part_then block (base_part records rows) (texts_part held ++ end_line) old first after_base
+    last third done c.in_ok-put_base.ensures.puts
+    (part_then after_base (texts_part held) end_line first second c.put_texts.new.block last
+    third done c.in_ok-put_texts.ensures.puts c.in_ok-put_bytes.ensures.puts)) in
+    puts_all file last old third (g.W.Sink.state c.flush.new.out) c.flush.result put
+    c.flush.ensures.puts

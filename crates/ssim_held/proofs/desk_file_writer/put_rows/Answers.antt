@@ -1,38 +1,57 @@
--- One more row is put.
-use Rattle.std.proofs.Common.{◌+◌, ◌++◌, codes, drop, length, ◌∙◌}
+-- The line with the number, and then each row.
+use Rattle.std.proofs.Common.{Ok, codes, length, arith}
 use Rattle.std.specs.List.{flat_map}
 use Rattle.ssim_base.proofs.Each.{all_done, all_more}
-use Rattle.ssim_base.proofs.SinkLemmas.{at_fault, halt, step}
-use Rattle.ssim_held.specs.File.{IsRow, counted, row_line, rows_part}
-use Rattle.ssim_held.proofs.FileParts.{element, first_fails}
+use Rattle.ssim_held.specs.File.{IsRow, counted, row_line}
+use Rattle.ssim_base.proofs.SinkLemmas.{part_then}
+use Rattle.ssim_held.proofs.FileParts.{element_fails, element_then, elements_done, number_fails}
 use Rattle.ssim_held.proofs.desk_file_writer.put_rows.Goals as goal
 
-pub returns-in_err-put_counted-clause-err : goal.returns-in_err-put_counted-clause-err
-returns-in_err-put_counted-clause-err g c =
-    at_fault c.from_residual.result (first_fails c.args.block.now (counted (codes "STATIONS") (length c.args.rows.now)) (flat_map row_line c.args.rows.now) (g.W.Sink.taken c.args.out.now) (g.W.Sink.taken c.put_counted.new.out) c.in_err-put_counted.ensures.err)
-
-pub returns-in_err-put_bytes-clause-err : goal.returns-in_err-put_bytes-clause-err
-returns-in_err-put_bytes-clause-err g c =
+pub returns-in_err-put_counted-clause-puts : goal.returns-in_err-put_counted-clause-puts
+returns-in_err-put_counted-clause-puts g c =
     let rows = c.args.rows.now in
-    let i = c.loop-row.row-index in
-    let bytes = c.write_row.result in
-    let whole = element row_line rows i c.row-item.result bytes c.loop-row-test.true c.row-item.is c.write_row.ensures.value in
-    at_fault c.from_residual-in_err-put_bytes.result (halt (c.args.block.now ++ rows_part rows) c.loop-row.block bytes (flat_map row_line (drop (i + 1) rows)) (flat_map row_line (drop i rows))
-    (g.W.Sink.taken c.args.out.now) (g.W.Sink.taken c.loop-row.out) (g.W.Sink.taken c.put_bytes.new.out) whole c.loop-row.invariant.bytes c.in_err-put_bytes.ensures.err)
+    number_fails c.args.block.now (counted (codes "STATIONS") (length rows)) (flat_map row_line rows)
+    c.put_counted.new.block (g.W.Sink.state c.args.out.now) (g.W.Sink.state c.put_counted.new.out)
+    c.from_residual.result c.from_residual.ensures.0 c.in_err-put_counted.ensures
 
-pub loop-row-preserved : goal.loop-row-preserved
-loop-row-preserved g c =
+pub loop-row-init : goal.loop-row-init
+loop-row-init g c =
     let rows = c.args.rows.now in
-    let i = c.loop-row.row-index in
-    let bytes = c.write_row.result in
-    let whole = element row_line rows i c.row-item.result bytes c.loop-row-test.true c.row-item.is c.write_row.ensures.value in
     record {
-      bytes = step (c.args.block.now ++ rows_part rows) c.loop-row.block bytes (flat_map row_line (drop (i + 1) rows)) c.put_bytes.new.block (flat_map row_line (drop i rows))
-          (g.W.Sink.taken c.args.out.now) (g.W.Sink.taken c.loop-row.out) (g.W.Sink.taken c.put_bytes.new.out) whole c.loop-row.invariant.bytes c.in_ok-put_bytes.ensures.ok;
-      rows = all_more IsRow rows i c.row-item.result c.loop-row-test.true c.row-item.is c.loop-row.invariant.rows c.write_row.ensures.is_row;
-      failures = c.in_ok-put_bytes.ensures.failures ∙ c.loop-row.invariant.failures;
-      device = c.in_ok-put_bytes.ensures.device ∙ c.loop-row.invariant.device;
+      puts = λ after kept result later.
+          part_then c.args.block.now (counted (codes "STATIONS") (length rows)) (flat_map row_line rows)
+          (g.W.Sink.state c.args.out.now) (g.W.Sink.state c.put_counted.new.out)
+          c.put_counted.new.block kept after result c.in_ok-put_counted.ensures later;
+      rows = λ k row less. absurd (omega arith);
     }
 
+pub returns-in_err-put_bytes-clause-puts : goal.returns-in_err-put_bytes-clause-puts
+returns-in_err-put_bytes-clause-puts g c =
+    let new = g.W.Sink.state c.put_bytes.new.out in
+    let result = c.from_residual-in_err-put_bytes.result in
+    c.loop-row.invariant.puts new c.put_bytes.new.block result
+    (element_fails row_line c.args.rows.now c.loop-row.row-index c.row-item.result c.write_row.result
+    c.loop-row-test.true c.row-item.is c.write_row.ensures.value c.loop-row.block (g.W.Sink.state c.loop-row.out) new
+    c.put_bytes.new.block result c.from_residual-in_err-put_bytes.ensures.0 c.in_err-put_bytes.ensures.puts)
+
+pub loop-row-preserved : goal.loop-row-preserved
+loop-row-preserved g c = record {
+  puts = λ after kept result later. c.loop-row.invariant.puts after kept result
+      (element_then row_line c.args.rows.now c.loop-row.row-index c.row-item.result c.write_row.result
+      c.loop-row-test.true c.row-item.is c.write_row.ensures.value c.loop-row.block (g.W.Sink.state c.loop-row.out)
+      (g.W.Sink.state c.put_bytes.new.out) c.put_bytes.new.block kept after result
+      c.in_ok-put_bytes.ensures.puts later);
+  rows = all_more IsRow c.args.rows.now c.loop-row.row-index c.row-item.result
+      c.loop-row-test.true c.row-item.is c.loop-row.invariant.rows c.write_row.ensures.is_row;
+}
+
+pub returns-clause-puts : goal.returns-clause-puts
+returns-clause-puts g c =
+    let out = g.W.Sink.state c.loop-row.out in
+    c.loop-row.invariant.puts out c.loop-row.block (Ok tt)
+    (elements_done row_line c.args.rows.now c.loop-row.row-index c.loop-row-test.false c.loop-row.block out)
+
 pub returns-clause-rows : goal.returns-clause-rows
-returns-clause-rows g c = all_done IsRow c.args.rows.now c.loop-row.row-index c.loop-row-test.false c.loop-row.invariant.rows
+returns-clause-rows g c =
+    all_done IsRow c.args.rows.now c.loop-row.row-index c.loop-row-test.false
+    c.loop-row.invariant.rows

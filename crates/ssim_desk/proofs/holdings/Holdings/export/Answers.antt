@@ -41,11 +41,12 @@ returns-clause-ok g c =
     let parts = c.into_parts-data_set.result in
     let desk = desk_with parts.0 parts.1 c.self.inside.held.items in
     let at = (goal.at.returns-clause-ok g c).After-export_in in
+    let old = g.W.Sink.state c.args.out.now in
+    let new = g.W.Sink.state c.export_in.new.out in
     on_ok c.export_in.result
-    (λ wrote. subst (λ (d : DeskSeen). WritesBase g.W.Sink.taken g.W.Sink.failures d.base.records
-    (days_of_desk d) c.args.out.now c.export_in.new.out) (apart g at)
-    (writes (days_in c.act_in_order.new.schedule) (days_of_desk desk) (shown g at) g.W.Sink.taken
-    g.W.Sink.failures parts.0 c.args.out.now c.export_in.new.out
+    (λ wrote. subst (λ (d : DeskSeen). WritesBase d.base.records (days_of_desk d) old new)
+    (apart g at)
+    (writes (days_in c.act_in_order.new.schedule) (days_of_desk desk) (shown g at) parts.0 old new
     (c.in_ok-schedule.frame, c.in_ok-schedule.ensures.frame, wrote)))
     c.export_in.ensures.ok
 
@@ -55,10 +56,10 @@ returns-clause-err g c =
     let desk = desk_with parts.0 parts.1 c.self.inside.held.items in
     let at = (goal.at.returns-clause-err g c).After-export_in in
     if_fault c.export_in.result
-    (λ fault refused. subst (λ (d : DeskSeen). RefusesBase g.W.Sink.taken g.W.Sink.failures
-    d.base.records (days_of_desk d) c.args.out.now c.export_in.new.out fault) (apart g at)
-    (refuses (days_in c.act_in_order.new.schedule) (days_of_desk desk) (shown g at) g.W.Sink.taken
-    g.W.Sink.failures parts.0 c.args.out.now c.export_in.new.out fault
+    (λ fault refused. subst (λ (d : DeskSeen). RefusesBase g.W.Sink.state d.base.records
+    (days_of_desk d) c.args.out.now c.export_in.new.out fault) (apart g at)
+    (refuses (days_in c.act_in_order.new.schedule) (days_of_desk desk) (shown g at) parts.0
+    g.W.Sink.state c.args.out.now c.export_in.new.out fault
     (c.in_ok-schedule.frame, c.in_ok-schedule.ensures.frame, refused)))
     c.export_in.ensures.err
 
@@ -67,15 +68,19 @@ returns-clause-reads_back g c =
     let parts = c.into_parts-data_set.result in
     let desk = desk_with parts.0 parts.1 c.self.inside.held.items in
     let at = (goal.at.returns-clause-reads_back g c).After-export_in in
+    let old = g.W.Sink.state c.args.out.now in
+    let new = g.W.Sink.state c.export_in.new.out in
     on_ok c.export_in.result
-    (λ back. subst (λ (d : DeskSeen). ReadsBackBase g.W.Sink.taken d.base.records (days_of_desk d)
-    c.args.out.now c.export_in.new.out) (apart g at)
-    (reads_back (days_in c.act_in_order.new.schedule) (days_of_desk desk) (shown g at)
-    g.W.Sink.taken parts.0 c.args.out.now c.export_in.new.out
+    (λ back. subst (λ (d : DeskSeen). ReadsBackBase d.base.records (days_of_desk d) old new)
+    (apart g at)
+    (reads_back (days_in c.act_in_order.new.schedule) (days_of_desk desk) (shown g at) parts.0 old
+    new
     (c.in_ok-schedule.frame, c.in_ok-schedule.ensures.frame, back.0, back.1, back.2)))
     c.export_in.ensures.reads_back
 
 pub returns-clause-exports : goal.returns-clause-exports
 returns-clause-exports g c =
-    let entries = subst (λ (d : DeskSeen). AreEntries d.base.records d.held) c.self.view_is c.self.invariant in
-    writes_desk g.W.Sink.taken g.W.Sink.failures c.args.self c.args.out.now c.export_in.new.out c.export_in.result entries (returns-clause-ok g c) (returns-clause-err g c)
+    let entries =
+    subst (λ (d : DeskSeen). AreEntries d.base.records d.held) c.self.view_is c.self.invariant in
+    writes_desk g.W.Sink.state c.args.self c.args.out.now c.export_in.new.out c.export_in.result
+    entries (returns-clause-ok g c) (returns-clause-err g c)

@@ -13,4 +13,4 @@ returns-in-Ok g c base days before airline written =
 pub returns-in-Err : goal.returns-in-Err
 returns-in-Err g c base days before airline written =
     let w = subst (λ (w : Result (Unit {0}) ExportFault). IsWritten base days before c.args.out.now w) c.in-Err.is written in
-    subst (λ (r : Refusal). PrintsExport base days before c.args.out.now (Err r)) (sym c.of_export.ensures) (not_written base days before c.args.out.now c.args.airline c.in-Err.fault airline w.device w.err)
+    subst (λ (r : Refusal). PrintsExport base days before c.args.out.now (Err r)) (sym c.of_export.ensures) (not_written base days before c.args.out.now c.args.airline c.in-Err.fault airline w.err)

@@ -18,4 +18,4 @@ returns g c =
     let desk = c.in_ok-holdings.holdings in
     let e = c.export-written.ensures in
     export_does (g.S.Store.files c.args.store.now) (g.S.Store.failures c.args.store.now) (g.S.Store.files c.open_holdings.new.store) (g.S.Store.failures c.open_holdings.new.store) c.args.name.now c.open_holdings.ensures.same c.open_holdings.ensures.counted c.args.out.now c.end_export.new.out desk c.end_export.result c.in_ok-holdings.ensures.read
-    (c.end_export.ensures desk.base.records (days_of_desk desk) c.args.out.now (c.airline-airline.ensures ∙ ap airline_of c.data_set.ensures) (record { ok = e.ok; err = e.err; device = e.device; reads_back = e.reads_back }))
+    (c.end_export.ensures desk.base.records (days_of_desk desk) c.args.out.now (c.airline-airline.ensures ∙ ap airline_of c.data_set.ensures) (record { ok = e.ok; err = e.err; reads_back = e.reads_back }))

@@ -18,4 +18,4 @@ returns g c =
     let read = c.in_ok-data_set.ensures.read in
     let e = c.export_data_set-written.ensures in
     tidy_does (g.S.Store.files c.args.store.now) (g.S.Store.failures c.args.store.now) (g.S.Store.files c.load.new.store) (g.S.Store.failures c.load.new.store) c.args.name.now c.load.ensures.same c.load.ensures.counted c.args.out.now c.end_export.new.out base read.0 c.end_export.result read.1
-    (c.end_export.ensures base (days_of base) c.args.out.now c.airline-airline.ensures (record { ok = e.ok; err = e.err; device = e.device; reads_back = e.reads_back }))
+    (c.end_export.ensures base (days_of base) c.args.out.now c.airline-airline.ensures (record { ok = e.ok; err = e.err; reads_back = e.reads_back }))

@@ -4,7 +4,7 @@ use Rattle.ssim_text.specs.Canonical.{five_digits, three_digits}
 use Rattle.ssim_text.specs.Lines.{kind_text}
 use Rattle.ssim_text.specs.declared.reference.Reference.{Reference}
 use Rattle.ssim_values.specs.Day.{day_text}
-use Rattle.ssim_program.specs.internal.Print.{Puts, without_originator}
+use Rattle.ssim_program.specs.internal.Print.{PrintsPart, without_originator}
 use Rattle.ssim_program.proofs.print.refusal_line.put_serials.Goals as goal
 
 parts_of : (r : Reference) (kind date group serial : List ℕ) → kind ≡ kind_text r.kind → date ≡ day_text r.date → group ≡ five_digits r.group → serial ≡ three_digits r.serial
@@ -15,4 +15,4 @@ pub returns : goal.returns
 returns g c =
     let is = parts_of c.args.reference.now c.as_bytes-kind.result.now c.write-date.result c.group_digits-group.result c.serial_digits-serial.result
     (c.as_bytes-kind.ensures.value ∙ c.name.ensures) c.write-date.ensures.value c.group_digits-group.ensures c.serial_digits-serial.ensures in
-    subst (λ (bs : List ℕ). Puts bs c.args.err.now c.put_parts.new.out c.put_parts.result) is c.put_parts.ensures
+    subst (λ (bs : List ℕ). PrintsPart bs c.args.err.now c.put_parts.new.out c.put_parts.result) is c.put_parts.ensures

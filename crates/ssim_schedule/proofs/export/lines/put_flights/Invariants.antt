@@ -3,8 +3,8 @@
 use Rattle.std.proofs.Common.{◌≡◌, ◌≤◌, ◌+◌, ◌++◌, length}
 use Rattle.std.specs.List.{All}
 use Rattle.std.specs.Vec.Iter.{into_iter_items, into_iter_len}
-use Rattle.ssim_schedule.specs.internal.Plan.{HasWritablePieces, numbered_lines, plan_count, plan_records}
-use Rattle.ssim_base.specs.Sinks.{TakesUpTo}
+use Rattle.ssim_base.specs.Sinks.{GrowsUpTo}
+use Rattle.ssim_schedule.specs.internal.Plan.{HasWritablePieces, plan_count, plan_lines}
 use Rattle.ssim_schedule.proofs.export.lines.put_flights.Given as goal
 
 abbrev pub invariant-loop-planned : goal.invariant-loop-planned
@@ -12,10 +12,10 @@ invariant-loop-planned g l =
     let left = into_iter_items l.planned-iterator in
     record {
       next : l.next + plan_count left ≡ l.serial + plan_count l.fn.plan.items;
-      bytes : TakesUpTo (l.fn.block ++ numbered_lines l.serial (plan_records l.airline l.fn.plan.items)) (l.block ++ numbered_lines l.next (plan_records l.airline left)) (g.W.Sink.taken l.fn.out) (g.W.Sink.taken l.out);
+      puts : GrowsUpTo (l.fn.block ++ plan_lines l.airline l.serial l.fn.plan.items)
+          (l.block ++ plan_lines l.airline l.next left)
+          (g.W.Sink.state l.fn.out) (g.W.Sink.state l.out);
       few : All (λ p. length p.1 ≤ 99) left;
       writable : All HasWritablePieces left → All HasWritablePieces l.fn.plan.items;
-      failures : g.W.Sink.failures l.out ≡ g.W.Sink.failures l.fn.out;
-      device : g.W.Sink.device l.out ≡ g.W.Sink.device l.fn.out;
       count : into_iter_len l.planned-iterator ≡ length left;
     }

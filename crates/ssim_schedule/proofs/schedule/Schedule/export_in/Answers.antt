@@ -1,30 +1,43 @@
 -- The export is written in the frame, and reads back if it was written.
-use Rattle.std.proofs.Common.{ℕ, List, OnOk, IfErr, subst}
-use Rattle.std.specs.Io.KnownBytes.{Appends}
-use Rattle.ssim_base.specs.Export.{Frame, chapter7}
+use Rattle.std.proofs.Common.{◌≡◌, ℕ, List, Result, OnOk, IfErr, ap, subst, ◌∙◌}
+use Rattle.ssim_base.specs.Export.{ExportRefusal, Frame, chapter7, frame_from}
+use Rattle.ssim_base.specs.ReadBack.{CanReadBack}
+use Rattle.ssim_base.proofs.SinkLemmas.{if_both}
 use Rattle.ssim_schedule.specs.ExportResult.{Refuses, Writes}
-use Rattle.ssim_base.specs.ReadBack.{ReadsBackFrom}
 use Rattle.ssim_schedule.specs.Schedule.{Flown, days_in}
 use Rattle.ssim_schedule.specs.internal.Table.{table_days}
-use Rattle.ssim_schedule.proofs.WrittenBack.{written_reads_back}
-use Rattle.ssim_base.proofs.SinkLemmas.{if_both}
 use Rattle.ssim_schedule.proofs.schedule.Schedule.export_in.Goals as goal
 
-pub returns-clause-ok : goal.returns-clause-ok
-returns-clause-ok g c =
-    subst (λ (t : Flown). OnOk c.export_frame.result (Writes g.W.Sink.taken g.W.Sink.failures (chapter7 c.args.frame.now (days_in t)) c.args.out.now c.export_frame.new.out)) c.self.view_is
-    (subst (λ (f : Frame). OnOk c.export_frame.result (Writes g.W.Sink.taken g.W.Sink.failures (chapter7 f (table_days c.self.inside.table)) c.args.out.now c.export_frame.new.out)) c.records.ensures.value c.export_frame.ensures.ok)
-
-pub returns-clause-err : goal.returns-clause-err
-returns-clause-err g c =
-    subst (λ (t : Flown). IfErr c.export_frame.result (Refuses g.W.Sink.taken g.W.Sink.failures (chapter7 c.args.frame.now (days_in t)) c.args.out.now c.export_frame.new.out)) c.self.view_is
-    (subst (λ (f : Frame). IfErr c.export_frame.result (Refuses g.W.Sink.taken g.W.Sink.failures (chapter7 f (table_days c.self.inside.table)) c.args.out.now c.export_frame.new.out)) c.records.ensures.value c.export_frame.ensures.err)
-
-pub returns-clause-reads_back : goal.returns-clause-reads_back
-returns-clause-reads_back g c =
+pub returns : goal.returns
+returns g c =
+    let result = c.export_frame.result in
     let frame = c.args.frame.now in
-    subst (λ (t : Flown). OnOk c.export_frame.result ((bytes : List ℕ) × Appends (g.W.Sink.taken c.args.out.now) (g.W.Sink.taken c.export_frame.new.out) bytes × ReadsBackFrom frame (days_in t) bytes)) c.self.view_is
-    (if_both c.export_frame.result
-    (λ wrote readable. written_reads_back g.W.Sink.taken g.W.Sink.failures frame (table_days c.self.inside.table) c.args.out.now c.export_frame.new.out c.export_bytes_read_back.ensures.read c.records.ensures.frame c.records.ensures.writable wrote (readable c.self.invariant))
-    (subst (λ (f : Frame). OnOk c.export_frame.result (Writes g.W.Sink.taken g.W.Sink.failures (chapter7 f (table_days c.self.inside.table)) c.args.out.now c.export_frame.new.out)) c.records.ensures.value c.export_frame.ensures.ok)
-    c.export_frame.ensures.readable)
+    let days = days_in c.args.self in
+    let old = c.args.out.now in
+    let new = c.export_frame.new.out in
+    let records = c.records.result in
+    let is : chapter7 (frame_from records.0.now records.1.now records.2.now)
+    (table_days c.self.inside.table) ≡ chapter7 frame days =
+    ap (λ (f : Frame). chapter7 f (table_days c.self.inside.table)) c.records.ensures.value
+    ∙ ap (λ (t : Flown). chapter7 frame (days_in t)) c.self.view_is in
+    let ok = subst (λ (e : Result (List ℕ) ExportRefusal).
+    OnOk result (Writes e (g.W.Sink.state old) (g.W.Sink.state new))) is
+    c.export_frame.ensures.ok in
+    record {
+      ok = ok;
+      err = subst (λ (e : Result (List ℕ) ExportRefusal).
+          IfErr result (Refuses g.W.Sink.state e old new)) is c.export_frame.ensures.err;
+      reads_back = if_both result (λ wrote readable.
+          let reads = subst (λ (t : Flown). CanReadBack (days_in t)) c.self.view_is
+          (readable c.self.invariant) in (
+            wrote.0,
+            wrote.2.taken,
+            c.export_bytes_read_back.ensures.read frame days wrote.0 (record {
+              frame_is = c.records.ensures.frame;
+              frame_writable = c.records.ensures.writable;
+              timetable = reads.timetable;
+              legs = reads.legs;
+              written = wrote.1;
+            }),
+          )) ok c.export_frame.ensures.readable;
+    }
