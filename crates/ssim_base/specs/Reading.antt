@@ -199,8 +199,8 @@ IsNext limit bytes blocks number =
 -- Which record a 13 or a 14 names. At 13 it is the record after the first invalid one of those that
 -- came whole, or, if each of them is allowed, the record after them. At 14 the bytes within the
 -- limit are read as one fault: as 14, which names this record, or as that of the first invalid
--- record, and then it is the record after this one. So there is one such number. Nothing is said if
--- the reader does not report its bytes.
+-- record, and then it is the record after this one. Nothing is said if the reader does not report
+-- its bytes.
 abbrev pub NamesNext : ℕ → Option (List ℕ) → Option (List ℕ) → BaseFault → Type 0
 NamesNext limit all left (fault.Read (ReadFault n)) = IfSome all (λ bytes.
     (blocks : List (List ℕ)) × AreComplete bytes left blocks × IsNext limit bytes blocks n)
