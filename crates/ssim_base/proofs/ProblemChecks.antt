@@ -6,7 +6,7 @@ use Rattle.ssim_base.specs.Base.{refusal_at}
 use Rattle.ssim_records.specs.Record.{Spells, fault_of}
 use Rattle.ssim_base.specs.Problems.{Alone, After, Item, Says, Standing, alone_refusal, after_invalid, after_item, is_at_heading, numbered, problem_in}
 use Rattle.ssim_base.specs.internal.Acceptance.{Accepts, HasAccepted, IsLeft, IsRefused, Stays}
-use Rattle.ssim_base.specs.internal.Problems.{Finds, Passes, Stands, listed}
+use Rattle.ssim_base.specs.internal.Problems.{Finds, Passes, HasStanding, listed}
 use Rattle.ssim_base.specs.declared.data_set.acceptance.Acceptance.{Acceptance}
 use Rattle.ssim_base.specs.declared.fault.BaseFault.{BaseFault}
 use Rattle.ssim_base.specs.declared.fault.BaseFault.TheVariants as fault
@@ -34,7 +34,7 @@ passes old new same heading heads alone (After earlier) is =
     let now : new.alone ≡ is_at_heading earlier = alone ∙ ap (λ b. b || heading) is.0 ∙ heads earlier is.1 in
     by earlier (is_at_heading earlier) refl now (subst (λ a. HasAccepted a earlier) (sym same) is.1)
   where
-    by : (earlier : List Record) (b : Bool) → is_at_heading earlier ≡ b → new.alone ≡ is_at_heading earlier → HasAccepted new.accepted earlier → Stands new (after_invalid earlier)
+    by : (earlier : List Record) (b : Bool) → is_at_heading earlier ≡ b → new.alone ≡ is_at_heading earlier → HasAccepted new.accepted earlier → HasStanding new (after_invalid earlier)
     by earlier true e now has = rw e (now ∙ e)
     by earlier false e now has = rw e (now ∙ e, has)
 
@@ -66,7 +66,7 @@ found-some old mid new number one n refusal alone still left passed (After earli
 -- the problem of a block is added, if it has one
 abbrev Adds : Checks → Checks → List BaseFault → List BaseFault → ℕ → List ℕ → Type 0
 Adds old new before now number block =
-    (x : Item) × Says number block x × ((standing : Standing) → Stands old standing → Stands new (after_item standing x) × (now ≡ before ++ problem_in standing (number, x)))
+    (x : Item) × Says number block x × ((standing : Standing) → HasStanding old standing → HasStanding new (after_item standing x) × (now ≡ before ++ problem_in standing (number, x)))
 
 -- it spells a record
 pub takes-record : (old new : Checks) (before now : List BaseFault) (number : ℕ) (block : List ℕ) (r : Record) (problem : Option BaseFault) → Spells r block → Finds old new number r problem
@@ -79,6 +79,6 @@ pub takes-fault : (old new : Checks) (before now : List BaseFault) (number : ℕ
     → now ≡ before ++ Read e ∷ [] → Adds old new before now number block
 takes-fault old new before now number block e why passed faults = (Err e, why, λ standing is. (by standing is, faults))
   where
-    by : (standing : Standing) → Stands old standing → Stands new (after_item standing (Err e))
+    by : (standing : Standing) → HasStanding old standing → HasStanding new (after_item standing (Err e))
     by Alone is = passed Alone is
     by (After earlier) is = passed (After earlier) is

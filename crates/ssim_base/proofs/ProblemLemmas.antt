@@ -12,7 +12,7 @@ use Rattle.ssim_records.specs.declared.fault.RecordFault.{RecordFault}
 use Rattle.ssim_records.specs.declared.fault.RecordFault.TheVariants.{Short, BadType, BadColumn, ReadFault, ReaderNeverEnds}
 use Rattle.ssim_base.specs.Problems.{AreItems, AreProblems, After, HasProblems, Item, NamesLast, Standing, after_item, begins_as_trailer, end_problem, missing_in, numbered, problem_in, problems_in, standing_after}
 use Rattle.ssim_base.specs.Reading.{AreBlocks, HaveCome, NeverEnds}
-use Rattle.ssim_base.specs.internal.Problems.{IsNew, Stands, Takes}
+use Rattle.ssim_base.specs.internal.Problems.{IsNew, HasStanding, Takes}
 use Rattle.ssim_base.specs.declared.fault.BaseFault.TheVariants.{Read}
 use Rattle.ssim_base.specs.declared.problems.ProblemReader.{ProblemReader}
 use Rattle.ssim_base.specs.declared.problems.Problems.{Problems}
@@ -25,7 +25,7 @@ pub record AreSoFar (found : ProblemReader) (before : List (ℕ × List ℕ)) : 
   pub items : List (ℕ × Item)
   pub are : AreItems before items
   pub standing : Standing
-  pub stands : Stands found.checks standing
+  pub checks_are : HasStanding found.checks standing
   pub problems : (later : List (ℕ × Item)) → problems_in (After []) (items ++ later) ≡ found.faults.items ++ problems_in standing later
   pub followed : (later : List (ℕ × Item)) → standing_after (After []) (items ++ later) ≡ standing_after standing later
   pub counted : found.records ≡ length items
@@ -36,7 +36,7 @@ none-so-far found is = record {
   items = [];
   are = tt;
   standing = After [];
-  stands = is.stands;
+  checks_are = is.checks_are;
   problems = λ later. ap (λ fs. fs ++ problems_in (After []) later) (sym is.faults_are);
   followed = λ later. refl;
   counted = is.records_are;
@@ -55,12 +55,12 @@ pub one-so-far : (old new : ProblemReader) (before : List (ℕ × List ℕ)) (nu
 one-so-far old new before number block so takes records trailer =
     let item = takes.0 in
     let x : ℕ × Item = (number, item) in
-    let step = takes.2 so.standing so.stands in
+    let step = takes.2 so.standing so.checks_are in
     record {
       items = so.items ++ x ∷ [];
       are = items-append before ((number, block) ∷ []) so.items (x ∷ []) so.are (refl, takes.1, tt);
       standing = after_item so.standing item;
-      stands = step.0;
+      checks_are = step.0;
       problems = λ later.
           ap (problems_in (After [])) (append_assoc so.items (x ∷ []) later)
           ∙ so.problems (x ∷ later)

@@ -76,7 +76,7 @@ abbrev pub is_at_heading : List Record → Bool
 is_at_heading (last ∷ second ∷ more) = false
 is_at_heading _ = true
 
--- after an invalid record: the valid records stay, unless it stands for the header or the carrier
+-- after an invalid record: the valid records stay, unless the header or the carrier was expected
 abbrev pub after_invalid : List Record → Standing
 after_invalid earlier = if is_at_heading earlier then Alone else After earlier
 
@@ -85,7 +85,7 @@ abbrev pub after_record : List Record → Record → Option BaseRefusal → Stan
 after_record earlier r None = After (kept earlier r ∷ earlier)
 after_record earlier r (Some refusal) = after_invalid earlier
 
--- how things stand after one more item
+-- the standing after one more item
 abbrev pub after_item : Standing → Item → Standing
 after_item (After earlier) (Ok r) = after_record earlier r (refusal_at earlier r)
 after_item (After earlier) (Err fault) = after_invalid earlier
@@ -97,7 +97,7 @@ problems_in standing [] = []
 problems_in standing (item ∷ items) =
     problem_in standing item ++ problems_in (after_item standing item.1) items
 
--- how things stand after these items
+-- the standing after these items
 abbrev pub standing_after : Standing → List (ℕ × Item) → Standing
 standing_after standing [] = standing
 standing_after standing (item ∷ items) = standing_after (after_item standing item.1) items

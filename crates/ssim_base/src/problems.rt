@@ -4,7 +4,7 @@ ghost use Rattle.std.specs.Prelude.{◌≡◌, ◌<◌, ◌+◌, ◌-◌, ◌^�
 ghost use Rattle.ssim_records.specs.declared.fault.RecordFault.{RecordFault};
 ghost use Rattle.ssim_base.specs.Problems.{HasProblems, NamesLast, Standing, begins_as_trailer, missing_in, numbered};
 ghost use Rattle.ssim_base.specs.Reading.{Came, FailsAs, NeverEnds};
-ghost use Rattle.ssim_base.specs.internal.Problems.{Finds, IsNew, Passes, Stands, Takes};
+ghost use Rattle.ssim_base.specs.internal.Problems.{Finds, IsNew, Passes, HasStanding, Takes};
 ghost use Rattle.ssim_base.specs.internal.Reading.{is_of_bytes};
 
 use crate::data_set::acceptance::{Acceptance, alone_refusal};
@@ -124,7 +124,7 @@ impl ProblemReader {
     fn finish(self, number: u64) -> Result<Problems, Memory>
         ensures records { IfOk result (λ problems. problems.records ≡ self.records) }
         ensures faults { IfOk result (λ problems. (standing : Standing)
-            → Stands self.checks standing
+            → HasStanding self.checks standing
             → problems.faults.items ≡ self.faults.items
             ++ numbered number (missing_in standing self.trailer)) }
     {
@@ -196,7 +196,7 @@ impl Checks {
 
     /// What is missing if no record follows. `trailer` says whether a record began with `5`.
     fn missing(&self, trailer: bool) -> Option<BaseRefusal>
-        ensures { (standing : Standing) → Stands self.now standing
+        ensures { (standing : Standing) → HasStanding self.now standing
             → result ≡ missing_in standing trailer }
     {
         if self.alone {

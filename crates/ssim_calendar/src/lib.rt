@@ -4,7 +4,7 @@
 //!   [`place_of`] and [`letter_at`] give the different ones of any values, and their letters.
 //! - [`push_picture`]: lines in which a column is a week and a row a weekday, with the letter of
 //!   each day.
-//! - [`push_legend`]: the number of dates of each letter, and texts that say what it stands for.
+//! - [`push_legend`]: the number of dates of each letter, and texts that say what it means.
 //! - [`laws`]: two days have the same letter if and only if they have the same value.
 //!
 //! The crate knows nothing of airlines. A value is any type that implements [`Value`] of

@@ -3,7 +3,7 @@
 use crate::devices::{BrokenStore, FullStore, NoStore};
 use crate::fault::Fault;
 use crate::memory_store::MemoryStore;
-use crate::shown::{number, parts, push_line, push_named, show};
+use crate::transcript::{number, parts, push_line, push_named, show};
 use ssim_program::{Store, StoreFault, run};
 use ssim_vectors::{Extent, FailingWriter};
 use std::alloc::Global;

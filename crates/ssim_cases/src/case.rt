@@ -5,11 +5,11 @@ use crate::desks::{Desks, place_of};
 use crate::extents::Call;
 use crate::fault::Fault;
 use crate::memory_store::MemoryStore;
-use crate::printed;
-use crate::printed::add_cancels;
+use crate::desk_view;
+use crate::desk_view::add_cancels;
 use crate::pure::{print_decoded, print_encoded, print_read, print_resolved};
-use crate::seen::Guard;
-use crate::shown::{add_shown, number, parts, push, push_line, push_named, push_refused, show};
+use crate::guard::Guard;
+use crate::transcript::{add_shown, number, parts, push, push_line, push_named, push_refused, show};
 use ssim_desk::Step;
 use ssim_program::{Refusal, Store, StoreFault};
 use ssim_records::Bytes;
@@ -379,7 +379,7 @@ impl<'t> Case<'t> {
             "copy" => self.desks.copy(desk),
             _ => {
                 let desk = self.desks.desk(desk)?;
-                printed::print(self.alloc, desk, word, rest, &mut self.transcript)
+                desk_view::print(self.alloc, desk, word, rest, &mut self.transcript)
             }
         }
     }

@@ -4,7 +4,7 @@ ghost use Rattle.std.specs.Prelude.{All, IsTrue};
 ghost use Rattle.ssim_desk.specs.Steps.{IsInRange};
 
 use crate::fault::Fault;
-use crate::shown::{number, push, push_line, push_named, push_refused, push_value};
+use crate::transcript::{number, push, push_line, push_named, push_refused, push_value};
 use ssim_base::{Base, Stations};
 use ssim_desk::{Answer, Desk, DeskFault, FindingLine, Step, Took, run_steps};
 use ssim_program::Refusal;

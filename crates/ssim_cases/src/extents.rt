@@ -1,7 +1,7 @@
 //! Calls of the library on readers and writers that fail after each number of bytes.
 
 use crate::fault::Fault;
-use crate::shown::{push_line, push_named, push_refused};
+use crate::transcript::{push_line, push_named, push_refused};
 use ssim_base::{Base, Stations};
 use ssim_desk::{Desk, DeskFault};
 use ssim_program::Refusal;

@@ -65,16 +65,16 @@
 
 mod answer;
 mod case;
+mod desk_view;
 mod desks;
 mod devices;
 mod extents;
 mod fault;
 mod memory_file;
 mod memory_store;
-mod printed;
 mod pure;
-mod seen;
-mod shown;
+mod guard;
+mod transcript;
 
 use case::Case;
 use fault::Fault;

@@ -2,7 +2,7 @@
 
 use crate::desks::{base_of, push_memory};
 use crate::fault::Fault;
-use crate::shown::{push_named, push_refused, push_value, show};
+use crate::transcript::{push_named, push_refused, push_value, show};
 use ssim_base::{Base, resolve};
 use ssim_desk::DeskFault;
 use ssim_program::Refusal;

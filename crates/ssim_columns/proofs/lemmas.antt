@@ -9,7 +9,7 @@ pub mod Months
 pub mod Names
 pub mod NewTails
 pub mod Numbers
-pub mod Overwriting
+pub mod Overlay
 pub mod OwnColumns
 pub mod Places
 pub mod ReadOnce

@@ -13,9 +13,9 @@ ghost use Rattle.ssim_columns.specs.Numbers.{digits_of};
 
 use crate::field::{Field, Kind, days_of, end_from};
 use crate::latest_months::LatestMonths;
+use crate::latest_value::{InColumns, LatestValue};
 use crate::leg::leg_fields::{DATES, DAYS, FIRST_DAY, LAST_DAY};
 use crate::leg::leg_name::{AirlineFlight, LegName, name_with, read_flight, read_flight_leg};
-use crate::repeated::{InColumns, Repeated};
 use crate::text::equality::are_same_by_fours;
 use crate::text::number::digits_of;
 use ssim_values::{Day, DayMask};
@@ -132,20 +132,20 @@ fn day_after(months: &mut LatestMonths, first: Day, first_text: &[u8], text: &[u
 /// digits of the latest serial of the records so far, and the months of the latest dates.
 #[derive(Drop)]
 pub struct LatestColumns {
-    flight: Repeated<8, AirlineFlight>,
-    ends: Repeated<14, LegEnds>,
-    days: Repeated<8, DayMask>,
-    serial: Repeated<4, SerialFront>,
+    flight: LatestValue<8, AirlineFlight>,
+    ends: LatestValue<14, LegEnds>,
+    days: LatestValue<8, DayMask>,
+    serial: LatestValue<4, SerialFront>,
     months: LatestMonths,
 }
 
 impl LatestColumns {
     pub fn new() -> LatestColumns {
         LatestColumns {
-            flight: Repeated::new(),
-            ends: Repeated::new(),
-            days: Repeated::new(),
-            serial: Repeated::new(),
+            flight: LatestValue::new(),
+            ends: LatestValue::new(),
+            days: LatestValue::new(),
+            serial: LatestValue::new(),
             months: LatestMonths::new(),
         }
     }

@@ -35,9 +35,9 @@ macro_rules! field {
 mod field;
 mod latest_columns;
 mod latest_months;
+mod latest_value;
 mod leg;
 mod record_writers;
-mod repeated;
 mod segment;
 mod text;
 
@@ -61,4 +61,4 @@ pub use segment::segment_tail::SegmentTail;
 pub use text::array::{bytes_of, seven};
 pub use text::equality::are_same_seven;
 pub use text::number::six_digits;
-pub use text::overwriting::join;
+pub use text::overlay::join;

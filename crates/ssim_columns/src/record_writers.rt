@@ -10,7 +10,7 @@ use crate::leg::leg_fields::{AFTER_OVERFLOW, MIDDLE, SERVICE_TYPE};
 use crate::segment::segment_tail::SegmentTail;
 use crate::text::array::bytes_of;
 use crate::text::number::six_digits;
-use crate::text::overwriting::append;
+use crate::text::overlay::append;
 
 /// Writes a leg record over 200 bytes: of the texts of its name and dates, its frequency rate,
 /// columns, overflow and serial.

@@ -4,4 +4,4 @@ pub(crate) mod array;
 pub(crate) mod clock_digits;
 pub(crate) mod equality;
 pub(crate) mod number;
-pub(crate) mod overwriting;
+pub(crate) mod overlay;

@@ -42,7 +42,7 @@ use Rattle.ssim_text.proofs.LinesKept.{ReadsAgain}
 use Rattle.ssim_text.proofs.ReadsBack.{action_again, all_left, all_right}
 use Rattle.ssim_text.proofs.Words.{only_if}
 use Rattle.ssim_text.proofs.Writing.{written_both}
-use Rattle.ssim_outbox.specs.Dated.{dated}
+use Rattle.ssim_outbox.specs.DatedSub.{dated}
 use Rattle.ssim_outbox.specs.Messages.{IsAlone}
 use Rattle.ssim_publish.specs.Reach.{IsSaid}
 use Rattle.ssim_outbox.specs.internal.Texts.{heading_parts}

@@ -1,5 +1,5 @@
 pub mod Messages
-pub mod Dated
+pub mod DatedSub
 pub mod SendLaws
 pub mod Order
 pub mod Fault

@@ -23,7 +23,7 @@ use Rattle.ssim_publish.specs.Published.{IsPublished, Leave, NamesDifferences}
 use Rattle.ssim_publish.specs.Unsaid.{AreUnsaidLines}
 use Rattle.ssim_publish.specs.declared.planned_sub.PlannedSub.{PlannedSub}
 use Rattle.ssim_outbox.specs.Comparable.{AreComparable, AreOfOtherAirlines, AreOfOtherModes}
-use Rattle.ssim_outbox.specs.Dated.{dated}
+use Rattle.ssim_outbox.specs.DatedSub.{dated}
 use Rattle.ssim_outbox.specs.Delivery.{AreDelivered, CanDeliver}
 use Rattle.ssim_outbox.specs.Heading.{NamesHeading}
 use Rattle.ssim_outbox.specs.MailFile.{mail_file}

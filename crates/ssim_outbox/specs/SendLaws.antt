@@ -8,7 +8,7 @@ use Rattle.ssim_base.specs.Resolve.{IsResolved}
 use Rattle.ssim_text.specs.Message.{MessageValue}
 use Rattle.ssim_text.specs.declared.action.Action.{Action}
 use Rattle.ssim_text.specs.declared.action.Sub.{Sub}
-use Rattle.ssim_outbox.specs.Dated.{dated}
+use Rattle.ssim_outbox.specs.DatedSub.{dated}
 use Rattle.ssim_outbox.specs.Messages.{IsText, Send, headed}
 
 -- the sub-messages of the messages, joined, are those that the messages send

@@ -31,9 +31,9 @@
 #![tactic(auto)]
 
 mod address;
-mod dated;
 mod delivery;
 mod fault;
+mod full_dates;
 mod heading;
 mod heading_lines;
 pub mod laws;
@@ -45,9 +45,9 @@ mod publication;
 mod publication_lines;
 mod send_fault;
 
-pub use dated::dated_sub;
 pub use delivery::deliver;
 pub use fault::OutboxFault;
+pub use full_dates::dated_sub;
 pub use mail_file::mail_file_of;
 pub use messages::messages_of;
 pub use order::follows;

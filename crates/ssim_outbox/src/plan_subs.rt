@@ -11,7 +11,7 @@ ghost use Rattle.ssim_outbox.specs.Messages.{IsAlone};
 ghost use Rattle.ssim_outbox.specs.Publication.{dates_of_plan, subs_of_plan};
 ghost use Rattle.ssim_outbox.specs.internal.Addressed.{HasPlan};
 
-use crate::dated::dated_sub;
+use crate::full_dates::dated_sub;
 use ssim_desk::Holdings;
 use ssim_difference::FlightDifference;
 use ssim_publish::{PlannedSub, Publication, plan};

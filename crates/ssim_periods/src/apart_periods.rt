@@ -3,7 +3,7 @@ ghost use Rattle.std.specs.Prelude.{◌≡◌, ◌≢◌, ℕ, ◌+◌, ◌<◌,
 ghost use Rattle.std.specs.List.{All, Contains};
 ghost use Rattle.std.specs.List.Sorted.{IsStrictlyIncreasing};
 ghost use Rattle.ssim_values.specs.Calendar.{weekday};
-ghost use Rattle.ssim_periods.specs.internal.Apart.{empty_week, AreDivided};
+ghost use Rattle.ssim_periods.specs.internal.Apart.{empty_week, value_in, AreApart, AreDivided};
 ghost use Rattle.ssim_periods.specs.Calendar.{day_count, holds};
 ghost use Rattle.ssim_periods.specs.Days.{each_day, changed_by_each, changed_on, counts_on, ends_of, AddsOnly};
 ghost use Rattle.ssim_periods.specs.Pieces.{pieces_of, held_on};
@@ -69,6 +69,20 @@ impl<V: Value> Model for ApartPeriods<V> {
 }
 
 impl<V: Value> ApartPeriods<V> {
+    /// The values of these periods, with these cuts.
+    fn of(alloc: Global, entries: Vec<(Period, V)>, cuts: SpacedDays) -> ApartPeriods<V>
+        requires { AreApart V.nothing entries.items cuts.days }
+        ensures days { result.days ≡ each_day (value_in V.nothing entries.items) }
+        ensures cuts { result.cuts ≡ cuts.days }
+    {
+        ApartPeriods {
+            empty: empty_row(),
+            entries,
+            cuts,
+            alloc,
+        }
+    }
+
     /// The empty value on each day. Allocates nothing.
     pub(crate) fn new(alloc: Global) -> Self
         ensures days { result.days ≡ each_day (λ _. V.nothing) }
@@ -239,16 +253,8 @@ impl<V: Value> ApartPeriods<V> {
     pub(crate) fn copy(&self) -> Result<ApartPeriods<V>, Memory>
         ensures { IfOk result (λ copy. copy ≡ self.now) }
     {
-        let alloc = self.alloc;
-        let empty = empty_row();
-        let entries = copy_entries(alloc, &self.entries)?;
-        let cuts = self.cuts.copy(alloc)?;
-        Ok(ApartPeriods {
-            empty,
-            entries,
-            cuts,
-            alloc,
-        })
+        let entries = copy_entries(self.alloc, &self.entries)?;
+        Ok(ApartPeriods::of(self.alloc, entries, self.cuts.copy(self.alloc)?))
     }
 
     /// A copy in which a value that is equal to the one before it in the list is a copy of that
@@ -256,16 +262,8 @@ impl<V: Value> ApartPeriods<V> {
     pub(crate) fn shared(&self) -> Result<ApartPeriods<V>, Memory>
         ensures { IfOk result (λ shared. shared ≡ self.now) }
     {
-        let alloc = self.alloc;
-        let empty = empty_row();
-        let entries = shared_entries(alloc, &self.entries)?;
-        let cuts = self.cuts.copy(alloc)?;
-        Ok(ApartPeriods {
-            empty,
-            entries,
-            cuts,
-            alloc,
-        })
+        let entries = shared_entries(self.alloc, &self.entries)?;
+        Ok(ApartPeriods::of(self.alloc, entries, self.cuts.copy(self.alloc)?))
     }
 
     /// The rising days at which a period begins, or the day after one ends.

@@ -4,9 +4,9 @@ ghost use Rattle.ssim_values.specs.DayMask.{IsMask};
 ghost use Rattle.ssim_periods.specs.Calendar.{slot};
 ghost use Rattle.ssim_periods.specs.Cover.{first_where, last_where, differ};
 
-pub(crate) mod joined;
 pub(crate) mod separate;
 pub(crate) mod trim;
+pub(crate) mod union;
 
 use crate::Value;
 use crate::weekdays::weekday_of;

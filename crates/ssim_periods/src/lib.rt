@@ -35,13 +35,12 @@ mod numbers;
 mod periods;
 mod range_rows;
 mod rows;
-mod shared;
 mod value;
 mod weekday_bits;
 mod weekdays;
 
 pub use common_days::{are_apart, meets};
-pub use cover::joined::union;
+pub use cover::union::union;
 pub use periods::Periods;
 pub use periods::pieces::{
     a_cover_is_the_division, covers_hold_each_day_once, pieces_hold_each_day_once, worked_pieces,

@@ -4,13 +4,16 @@ ghost use Rattle.std.specs.List.Sorted.{IsStrictlyIncreasing};
 ghost use Rattle.ssim_values.specs.Calendar.{weekday};
 ghost use Rattle.ssim_periods.specs.Calendar.{holds};
 ghost use Rattle.ssim_periods.specs.Days.{each_day, changed_on, counts_on, AddsOnly};
+ghost use Rattle.ssim_periods.specs.internal.Rows.{value_on, AreRows};
 
 pub(crate) mod count;
 pub(crate) mod patches;
 mod pieces;
+mod row_copies;
 
 use crate::range_rows::count::class_counts;
 use crate::range_rows::patches::{new_rows, put_period};
+use crate::range_rows::row_copies::{shared_row, shared_rows};
 use crate::rows::{copy_row, copy_rows, place_of, row_for_cut};
 use crate::weekdays::weekday_of;
 use crate::{Change, Value};
@@ -164,10 +167,35 @@ impl<V: Value> RangeRows<V> {
     pub(crate) fn copy(&self) -> Result<RangeRows<V>, Memory>
         ensures { IfOk result (λ copy. copy ≡ self.now) }
     {
-        let alloc = self.alloc;
-        let before = copy_row(alloc, &self.before)?;
-        let rows = copy_rows(alloc, &self.rows)?;
-        let cuts = Vec::from_slice(alloc, &self.cuts)?;
+        let before = copy_row(self.alloc, &self.before)?;
+        let rows = copy_rows(self.alloc, &self.rows)?;
+        RangeRows::of(self.alloc, before, &self.cuts, rows)
+    }
+
+    /// A copy with the same values and cuts. Equal values of a range, and equal values of one
+    /// weekday in neighbouring ranges, are copies of one value. If copies of a value share memory,
+    /// that memory is used once.
+    pub(crate) fn shared(&self) -> Result<RangeRows<V>, Memory>
+        ensures { IfOk result (λ shared. shared ≡ self.now) }
+    {
+        let before = shared_row(self.alloc, &self.before, &self.before)?;
+        let rows = shared_rows(self.alloc, &before, &self.rows)?;
+        RangeRows::of(self.alloc, before, &self.cuts, rows)
+    }
+
+    /// The values of these rows, with these cuts.
+    fn of(
+        alloc: Global,
+        before: [V; 7],
+        cuts: &[u32],
+        rows: Vec<[V; 7]>,
+    ) -> Result<RangeRows<V>, Memory>
+        requires { AreRows before cuts.now rows.items }
+        ensures days { IfOk result (λ copy.
+            copy.days ≡ each_day (value_on V.nothing before cuts.now rows.items)) }
+        ensures cuts { IfOk result (λ copy. copy.cuts ≡ cuts.now) }
+    {
+        let cuts = Vec::from_slice(alloc, cuts)?;
         Ok(RangeRows {
             before,
             cuts,

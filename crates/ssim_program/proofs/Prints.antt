@@ -25,8 +25,8 @@ use Rattle.ssim_program.specs.Files.{Files}
 use Rattle.std.specs.List.{flat_map}
 use Rattle.ssim_base.specs.Export.{line}
 use Rattle.ssim_program.specs.Made.{IsExport, file_limit, problem_line}
-use Rattle.ssim_program.specs.print.Printed.{printed_text}
-use Rattle.ssim_program.specs.declared.print.printed.Printed.TheVariants as printed_line
+use Rattle.ssim_program.specs.print.PrintedLine.{printed_text}
+use Rattle.ssim_program.specs.declared.print.printed_line.PrintedLine.TheVariants as printed_line
 use Rattle.ssim_command_line.specs.declared.command_line.ListForm.{ListForm}
 use Rattle.ssim_program.specs.Listing.{chosen}
 use Rattle.ssim_program.specs.Messages.{SpellEach, message_texts, messages_on}

@@ -26,11 +26,11 @@ use Rattle.ssim_desk.specs.declared.steps.Answer.TheVariants.{Merged}
 use Rattle.ssim_program.specs.Files.{Files}
 use Rattle.ssim_command_line.specs.Line.{Text}
 use Rattle.ssim_program.specs.Made.{HasFile, IsExport, RefusesLoad}
-use Rattle.ssim_program.specs.print.Printed.{printed_text}
+use Rattle.ssim_program.specs.print.PrintedLine.{printed_text}
 use Rattle.ssim_program.specs.print.Refusal.{IsOfFile, refusal_of_desk}
 use Rattle.ssim_program.specs.print.Shown.{history_lines, shown_flight}
-use Rattle.ssim_program.specs.declared.print.printed.Printed.{Printed}
-use Rattle.ssim_program.specs.declared.print.printed.Printed.TheVariants as printed
+use Rattle.ssim_program.specs.declared.print.printed_line.PrintedLine.{PrintedLine}
+use Rattle.ssim_program.specs.declared.print.printed_line.PrintedLine.TheVariants as printed
 use Rattle.ssim_program.specs.declared.refusal.Refusal.{Refusal}
 use Rattle.ssim_program.specs.declared.refusal.Refusal.TheVariants as refused
 
@@ -67,7 +67,7 @@ held_line n = line (printed_text (printed.Held n))
 -- ---- texts
 
 -- the line of what became of a text, with the reference of its message
-abbrev pub took_printed : Took → Reference → Printed
+abbrev pub took_printed : Took → Reference → PrintedLine
 took_printed took.Taken reference = printed.Taken reference
 took_printed took.Repeated reference = printed.Repeated reference
 

@@ -22,13 +22,13 @@ use Rattle.ssim_base.specs.declared.stations.StationFault.{StationFault}
 use Rattle.ssim_text.specs.Left.{lines_left}
 use Rattle.ssim_program.specs.Files.{Files, IsOpened, file_of}
 use Rattle.ssim_command_line.specs.Line.{Text}
-use Rattle.ssim_program.specs.print.Printed.{printed_text}
+use Rattle.ssim_program.specs.print.PrintedLine.{printed_text}
 use Rattle.ssim_program.specs.print.Refusal.{IsOfFile, fault_text, refusal_of_base}
 use Rattle.ssim_program.specs.print.Refusal.{refusal_of_stations}
 use Rattle.ssim_program.specs.declared.refusal.Refusal.{Refusal}
 use Rattle.ssim_program.specs.declared.refusal.Refusal.TheVariants as refused
-use Rattle.ssim_program.specs.declared.print.printed.Printed.{Printed}
-use Rattle.ssim_program.specs.declared.print.printed.Printed.TheVariants as printed
+use Rattle.ssim_program.specs.declared.print.printed_line.PrintedLine.{PrintedLine}
+use Rattle.ssim_program.specs.declared.print.printed_line.PrintedLine.TheVariants as printed
 
 -- ---- from a base
 
@@ -42,7 +42,7 @@ abbrev pub IsExportOf : List Record → List ℕ → Type 0
 IsExportOf base bytes = IsExport base (days_of base) bytes
 
 -- a note as it is printed
-abbrev pub as_printed : Note → Printed
+abbrev pub as_printed : Note → PrintedLine
 as_printed (note.Serial n) = printed.SerialNote n
 as_printed (note.CheckReference n) = printed.CheckReferenceNote n
 

@@ -23,7 +23,7 @@ use Rattle.ssim_program.specs.Desks.{IsTaken, ReadsDesk, took_printed}
 use Rattle.ssim_program.specs.Files.{Files, Kept, file_of}
 use Rattle.ssim_program.specs.Made.{HasFile, IsMissing, file_limit}
 use Rattle.ssim_program.specs.print.Names.{printed_name}
-use Rattle.ssim_program.specs.print.Printed.{printed_text}
+use Rattle.ssim_program.specs.print.PrintedLine.{printed_text}
 use Rattle.ssim_program.specs.print.Refusal.{place_text, refusal_head, refusal_of_desk, refusal_place}
 
 -- ---- what becomes of texts

@@ -7,14 +7,14 @@ use Rattle.ssim_text.specs.declared.reference.Reference.{Reference}
 use Rattle.ssim_held.specs.Entries.{DeskSeen, map_of}
 use Rattle.ssim_held.specs.Held.{HeldMessages}
 use Rattle.ssim_command_line.specs.Line.{Text}
-use Rattle.ssim_program.specs.print.Printed.{printed_text}
-use Rattle.ssim_program.specs.declared.print.printed.Printed.{Printed}
-use Rattle.ssim_program.specs.declared.print.printed.Printed.TheVariants as printed
+use Rattle.ssim_program.specs.print.PrintedLine.{printed_text}
+use Rattle.ssim_program.specs.declared.print.printed_line.PrintedLine.{PrintedLine}
+use Rattle.ssim_program.specs.declared.print.printed_line.PrintedLine.TheVariants as printed
 use Rattle.ssim_program.specs.declared.refusal.Refusal.{Refusal}
 use Rattle.ssim_program.specs.declared.refusal.Refusal.TheVariants as refused
 
 -- what is printed of a reference: its message was held and is withdrawn, or it was not held
-abbrev pub withdrawn_printed : Bool → Reference → Printed
+abbrev pub withdrawn_printed : Bool → Reference → PrintedLine
 withdrawn_printed true reference = printed.Withdrawn reference
 withdrawn_printed false reference = printed.NotHeld reference
 

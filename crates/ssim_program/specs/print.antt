@@ -1,7 +1,7 @@
 -- What is printed.
 pub mod Names
 pub mod Refusal
-pub mod Printed
+pub mod PrintedLine
 pub mod Shown
 pub mod Listing
 pub mod Calendar

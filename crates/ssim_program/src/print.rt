@@ -2,6 +2,6 @@
 
 pub(crate) mod fault_line;
 pub(crate) mod name;
-pub(crate) mod printed;
+pub(crate) mod printed_line;
 pub(crate) mod printer;
 pub(crate) mod refusal_line;

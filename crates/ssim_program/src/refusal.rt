@@ -10,7 +10,7 @@ ghost use Rattle.ssim_program.specs.print.Refusal.{refusal_place, refusal_text};
 
 use crate::print::fault_line::FaultLine;
 use crate::print::name::printed_name;
-use crate::print::printed::line_of;
+use crate::print::printed_line::line_of;
 use ssim_base::{BaseFault, Place, StationFault};
 use ssim_desk::DeskFault;
 use ssim_outbox::OutboxFault;

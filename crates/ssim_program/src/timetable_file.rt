@@ -12,7 +12,7 @@ use crate::refusal::Refusal;
 use crate::store::Store;
 use ssim_base::Stations;
 use ssim_desk::Holdings;
-use ssim_records::{Carrier, LookedAt, Source};
+use ssim_records::{Carrier, Peekable, Source};
 use std::alloc::Global;
 
 /// The desk whose timetable the file of this name has. A data set is read as a desk that holds no
@@ -40,7 +40,7 @@ fn read_timetable<F: Source + Drop>(alloc: Global, name: &str, file: F) -> Resul
         → IfSome files (λ _. (other : F) → (F.state other).failures ≡ 0)
         → IfErr result (RefusesTimetable files name.now) }
 {
-    let mut file = LookedAt::new(file);
+    let mut file = Peekable::new(file);
     match file.begins_with(b"SSIMDESK ") {
         Ok(true) => read_desk(alloc, name, file),
         Ok(false) => read_data_set(alloc, name, file),

@@ -19,7 +19,7 @@ use Rattle.ssim_columns.proofs.lemmas.LegChanges.{equipment_written, length_stat
 use Rattle.ssim_columns.proofs.lemmas.LegChanges.{station_widths, stations_long}
 use Rattle.ssim_columns.proofs.lemmas.LegChanges.{time_writes, times_change, times_written}
 use Rattle.ssim_columns.proofs.lemmas.OwnColumns.{own_middle}
-use Rattle.ssim_columns.proofs.lemmas.Overwriting.{Fit, length_written, slice_cut}
+use Rattle.ssim_columns.proofs.lemmas.Overlay.{Fit, length_written, slice_cut}
 use Rattle.ssim_columns.proofs.lemmas.Places.{all_placed}
 use Rattle.ssim_columns.proofs.lemmas.Rows.{same_columns}
 

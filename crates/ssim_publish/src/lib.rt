@@ -59,11 +59,11 @@ mod segment_tails;
 mod single_dates;
 mod single_period;
 mod trial;
-mod unsaid;
+mod unsaid_dates;
 mod wanted_leg;
 
 pub use date_actions::say;
 pub use planned_sub::PlannedSub;
 pub use publication::{Publication, plan};
 pub use ssim_values::Memory;
-pub use unsaid::unsaid_lines;
+pub use unsaid_dates::unsaid_lines;

@@ -1,4 +1,4 @@
-//! What stands in the way of messages at one leg: its columns.
+//! Which columns of one leg no message can make.
 
 ghost use Rattle.std.specs.Prelude.{IsTrue};
 ghost use Rattle.ssim_columns.specs.Leg.{is_own};

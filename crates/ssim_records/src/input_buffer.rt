@@ -147,8 +147,8 @@ impl InputBuffer {
         Ok(true)
     }
 
-    /// Fetches bytes until this many are held. Says whether there are so many: if not, the reader
-    /// is at its end.
+    /// Fetches bytes until this many are held. Returns false if fewer are left: the reader is then
+    /// at its end.
     ///
     /// The faults are 13 if the reader failed, and 14 if more bytes came than the limit.
     #[inline]

@@ -8,7 +8,7 @@
 //! - [`Records`]: the records of a stream, one after another, from any [`Source`].
 //! - [`Source`] and [`Sink`]: devices that bytes come from and go to. Contracts know the bytes of a
 //!   `&[u8]` and of [`Bytes`]. [`Input`] and [`Output`], over std's readers and writers, count their
-//!   bytes and failures. A [`LookedAt`] gives the bytes of another source, of which the first can be
+//!   bytes and failures. A [`Peekable`] gives the bytes of another source, of which the first can be
 //!   looked at before.
 //! - [`InputBuffer`]: the bytes of a [`Source`] as they are needed, at most a limit; [`InputFault`]:
 //!   refusals 13 and 14 of it.
@@ -27,7 +27,7 @@ mod device;
 mod fault;
 mod input_buffer;
 mod laws;
-mod looked_at;
+mod peekable;
 mod record;
 mod records;
 mod stream;
@@ -38,7 +38,7 @@ pub use device::{DeviceFault, Sink, Source};
 pub use fault::RecordFault;
 pub use input_buffer::{InputBuffer, InputFault};
 pub use laws::{frames_are_one, worked_records, written_records_read_back};
-pub use looked_at::LookedAt;
+pub use peekable::Peekable;
 pub use record::carrier::Carrier;
 pub use record::header::Header;
 pub use record::leg::LegRecord;

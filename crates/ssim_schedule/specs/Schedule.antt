@@ -25,7 +25,7 @@ cuts_in flown = table_cuts flown.table
 abbrev pub flown_by : Table → Flown
 flown_by table = record { table = table }
 
--- by this code a proof tells two values apart
+-- by this code a proof sees that two values differ
 abbrev pub flown_code : Coded Flown
 flown_code =
     code_by Table (coded_list entry.the_row.coded) (λ flown. flown.table) flown_by (λ _. refl)

@@ -1,7 +1,7 @@
 -- Definitions that only private functions cite. No law and no contract of a public function cites
 -- them, so nobody has to believe them. `Table` has how flights are stored, by which `days_in` and
 -- `cuts_in` are defined: a caller knows of these two what the contracts of `Schedule` say.
-pub mod Shared
+pub mod CopyOnWrite
 pub mod SharedLegs
 pub mod Table
 pub mod Blocks

@@ -2,4 +2,4 @@
 
 pub(crate) mod flight_blocks;
 pub(crate) mod flight_table;
-pub(crate) mod shared;
+pub(crate) mod copy_on_write;

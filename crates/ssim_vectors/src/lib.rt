@@ -4,7 +4,7 @@
 
 mod data_sets;
 mod devices;
-mod named;
+mod vector_names;
 mod texts;
 
 pub use data_sets::{
@@ -13,7 +13,7 @@ pub use data_sets::{
     TRAILER_OF_THREE, YEARS, add_lines,
 };
 pub use devices::{Extent, FailingReader, FailingWriter};
-pub use named::add_vector;
+pub use vector_names::add_vector;
 pub use texts::{
     EVERY_PART, EVERY_PART_WRITTEN, ONE_DATE_CANCELLED, ONE_WEEKDAY_CANCELLED, STATIONS,
     THREE_DESKS, TIMES_CHANGED_ON_MONDAYS, TWO_DESKS,

@@ -2,7 +2,7 @@
 
 use crate::draft::fault_of;
 use crate::open_file::OpenFile;
-use crate::reading::read_within;
+use crate::file_bytes::read_within;
 use crate::whole_file::write_whole;
 use ssim_program::{Content, Store, StoreFault};
 use std::alloc::{AllocError, Global};

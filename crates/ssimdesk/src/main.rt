@@ -4,7 +4,7 @@
 mod draft;
 mod files;
 mod open_file;
-mod reading;
+mod file_bytes;
 mod whole_file;
 
 use files::FileStore;

@@ -7,7 +7,7 @@ use Rattle.ssim_columns.specs.Numbers.{digits}
 use Rattle.ssim_columns.specs.Columns.{filled}
 use Rattle.ssim_columns.specs.Segment.{IsTail, new_tail}
 use Rattle.ssim_columns.proofs.lemmas.CarriedTexts.{IsCarried, digits_carried, filled_carried, joined_carried, joined_long, length_station, station_carried}
-use Rattle.ssim_columns.proofs.lemmas.Overwriting.{Fit, Write, all_lie, glued, length_written, stays, written}
+use Rattle.ssim_columns.proofs.lemmas.Overlay.{Fit, Write, all_lie, glued, length_written, stays, written}
 use Rattle.ssim_columns.proofs.lemmas.Places.{length_concat}
 
 abbrev pub tail_writes : List ℕ → ℕ → List ℕ → List ℕ → List ℕ → List Write

@@ -17,7 +17,7 @@ use Rattle.std.proofs.lemmas.Slice.Eq.{bytes_eq-Decides}
 use Rattle.ssim_columns.proofs.lemmas.Names.{names_decide, names_eq, one_name, NameLies, name_digits, name_lies, spells_name, name_stands, length_airline}
 use Rattle.ssim_columns.proofs.lemmas.Numbers.{digits_of-digits, digits_of-written}
 use Rattle.ssim_columns.proofs.lemmas.OwnColumns.{moved}
-use Rattle.ssim_columns.proofs.lemmas.Overwriting.{slice_cut}
+use Rattle.ssim_columns.proofs.lemmas.Overlay.{slice_cut}
 use Rattle.ssim_columns.proofs.lemmas.Places.{all_placed, length_concat, placed_whole}
 use Rattle.ssim_columns.proofs.lemmas.Rows.{both_stand, is_true, all_carried, none_other, both_true, stands_as}
 use Rattle.ssim_columns.proofs.lemmas.Slices.{length_slice}

@@ -20,7 +20,7 @@ use crate::leg::leg_fields::{
 use crate::leg::leg_parts::{LegEquipment, LegStations, LegTimes};
 use crate::text::array::bytes_of;
 use crate::text::equality::are_same_texts;
-use crate::text::overwriting::{append, join};
+use crate::text::overlay::{append, join};
 use ssim_values::{Clock, Station, Variation};
 use std::marker::Model;
 

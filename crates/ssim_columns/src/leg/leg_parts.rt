@@ -9,7 +9,7 @@ use crate::leg::leg_fields::{
     AIRCRAFT_ARRIVAL, AIRCRAFT_DEPARTURE, AIRCRAFT_TYPE, BEFORE_MIDDLE, BEFORE_TAIL,
     BOOKING_DESIGNATORS, CONFIGURATION, DATE_VARIATIONS, PASSENGER_ARRIVAL, PASSENGER_DEPARTURE,
 };
-use crate::text::overwriting::{join, put, put_filled};
+use crate::text::overlay::{join, put, put_filled};
 use ssim_values::{Clock, Station, Variation, last_digit};
 
 /// The stations of a leg and their UTC variations. Fields are named by the columns of a flight leg

@@ -12,7 +12,7 @@ use crate::leg::period_text::PeriodText;
 use crate::record_writers::{write_leg, write_segment};
 use crate::segment::segment_tail::SegmentTail;
 use crate::text::number::{both_digits, four_digits};
-use crate::text::overwriting::join;
+use crate::text::overlay::join;
 use ssim_values::are_digits;
 use std::marker::Model;
 

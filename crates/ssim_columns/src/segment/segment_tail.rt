@@ -9,7 +9,7 @@ use crate::field::are_carried;
 use crate::text::array::bytes_of;
 use crate::text::equality::are_same_texts;
 use crate::text::number::three_digits;
-use crate::text::overwriting::{append, put, put_filled};
+use crate::text::overlay::{append, put, put_filled};
 use ssim_values::Station;
 use std::marker::Model;
 

@@ -10,7 +10,7 @@ use Rattle.ssim_listing.specs.LegText.{leg_text}
 abbrev pub meets_days : ℕ → DayRange → Bool
 meets_days from period = nat_lt period.first (from + 75) && nat_le from period.last
 
--- dates whose values are behind references
+-- dates with references to their values
 abbrev pub seen_dates : {V : Type 0} → List (ℕ × Bor V) → List (ℕ × V)
 seen_dates dates = map (λ date. (date.0, date.1.now)) dates
 

@@ -10,7 +10,7 @@ use Rattle.ssim_text.specs.declared.action.Action.TheVariants.{Cnl}
 use Rattle.ssim_text.specs.declared.action.Sub.{Sub}
 use Rattle.ssim_text.specs.declared.kind.Kind.TheVariants.{Ssm}
 use Rattle.ssim_text.specs.declared.reference.GivenReference.{GivenReference}
-use Rattle.ssim_outbox.specs.Dated.{dated}
+use Rattle.ssim_outbox.specs.DatedSub.{dated}
 use Rattle.ssim_outbox.specs.Heading.{NamesHeading}
 use Rattle.ssim_outbox.specs.declared.fault.OutboxFault.{OutboxFault}
 use Rattle.ssim_outbox.specs.declared.fault.OutboxFault.TheVariants as fault

@@ -8,7 +8,7 @@ ghost use Rattle.ssim_periods.specs.Days.{each_day};
 ghost use Rattle.ssim_periods.specs.Pieces.{held_on};
 
 use crate::common_days::are_apart;
-use crate::cover::joined::join;
+use crate::cover::union::join;
 use crate::numbers::ValueNumber;
 use crate::range_rows::RangeRows;
 use crate::value::are_equal;

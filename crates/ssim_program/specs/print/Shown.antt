@@ -15,7 +15,7 @@ use Rattle.ssim_desk.specs.declared.date_step.DateStep.{DateStep}
 use Rattle.ssim_desk.specs.declared.finding_line.FindingLine.{FindingLine}
 use Rattle.ssim_listing.specs.LegText.{leg_text}
 use Rattle.ssim_listing.specs.Marks.{marked_line}
-use Rattle.ssim_program.specs.print.Printed.{finding_text}
+use Rattle.ssim_program.specs.print.PrintedLine.{finding_text}
 
 -- the line of a leg
 abbrev pub leg_line : LegValue → List ℕ

@@ -6,7 +6,7 @@ ghost use Rattle.ssim_program.specs.Made.{as_printed, summary_lines};
 ghost use Rattle.ssim_program.specs.internal.Program.{Prepares, stored};
 
 use crate::data_set::load_summary;
-use crate::print::printed::{Printed, add_line};
+use crate::print::printed_line::{PrintedLine, add_line};
 use crate::refusal::Refusal;
 use crate::store::Store;
 use ssim_base::{Note, Summary};
@@ -34,7 +34,7 @@ fn lines_on(alloc: Global, summary: &Summary) -> Result<Vec<u8>, Memory>
     for note in &summary.notes {
         add_line(&mut lines, &printed_note(*note))?;
     }
-    let last = Printed::Summary {
+    let last = PrintedLine::Summary {
         records: summary.records,
         flights: summary.flights,
         notes: summary.notes.len(),
@@ -43,11 +43,11 @@ fn lines_on(alloc: Global, summary: &Summary) -> Result<Vec<u8>, Memory>
     Ok(lines)
 }
 
-fn printed_note(note: Note) -> Printed
+fn printed_note(note: Note) -> PrintedLine
     ensures { result ≡ as_printed note }
 {
     match note {
-        Note::Serial(number) => Printed::SerialNote { record: number },
-        Note::CheckReference(number) => Printed::CheckReferenceNote { record: number },
+        Note::Serial(number) => PrintedLine::SerialNote { record: number },
+        Note::CheckReference(number) => PrintedLine::CheckReferenceNote { record: number },
     }
 }

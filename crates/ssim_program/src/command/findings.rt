@@ -4,7 +4,7 @@ ghost use Rattle.std.specs.Prelude.{◌≡◌, ◌++◌, IfOk, OnOk};
 ghost use Rattle.ssim_base.specs.Export.{line};
 ghost use Rattle.ssim_desk.specs.Desk.{finding_lines};
 ghost use Rattle.ssim_command_line.specs.Line.{Findings};
-ghost use Rattle.ssim_program.specs.print.Printed.{counts_text, finding_text, sub_text};
+ghost use Rattle.ssim_program.specs.print.PrintedLine.{counts_text, finding_text, sub_text};
 ghost use Rattle.ssim_program.specs.internal.Program.{Prepares, stored};
 ghost use Rattle.ssim_program.specs.print.Shown.{findings_lines};
 

@@ -7,7 +7,7 @@ ghost use Rattle.ssim_program.specs.internal.Program.{Prepares, stored};
 
 use crate::data_set::load_problems;
 use crate::print::fault_line::FaultLine;
-use crate::print::printed::{Printed, add_line};
+use crate::print::printed_line::{PrintedLine, add_line};
 use crate::refusal::Refusal;
 use crate::store::Store;
 use ssim_values::Memory;
@@ -41,7 +41,7 @@ fn lines_of(alloc: Global, problems: &ssim_base::Problems) -> Result<Vec<u8>, Me
         };
         add_line(&mut lines, &line)?;
     }
-    let last = Printed::ProblemCount {
+    let last = PrintedLine::ProblemCount {
         records: problems.records,
         problems: problems.faults.len(),
     };

@@ -7,7 +7,7 @@ ghost use Rattle.ssim_program.specs.internal.Program.{Prepares, stored};
 
 use crate::data_set::load_base;
 use crate::desk_file::keep;
-use crate::print::printed::{Printed, line_of};
+use crate::print::printed_line::{PrintedLine, line_of};
 use crate::refusal::Refusal;
 use crate::store::Store;
 use ssim_desk::Holdings;
@@ -39,5 +39,5 @@ pub(crate) fn start<S: Store>(
 pub(crate) fn held_line(alloc: Global, messages: usize) -> Result<Vec<u8>, Memory>
     ensures { IfOk result (λ line. line.items ≡ held_line messages) }
 {
-    line_of(alloc, &Printed::Held { messages })
+    line_of(alloc, &PrintedLine::Held { messages })
 }

@@ -11,7 +11,7 @@ ghost use Rattle.ssim_program.specs.internal.Program.{Does};
 
 use crate::data_set::load_file;
 use crate::desk_file::{keep, open_holdings};
-use crate::print::printed::{Printed, line_of};
+use crate::print::printed_line::{PrintedLine, line_of};
 use crate::print::printer::{Printer, print_all};
 use crate::refusal::Refusal;
 use crate::store::Store;
@@ -91,11 +91,11 @@ fn take_one(desk: &mut Holdings, text: &[u8]) -> Result<(Took, Reference), DeskF
 }
 
 /// What became of a text, as it is printed.
-pub(crate) fn printed(took: Took, reference: Reference) -> Printed
+pub(crate) fn printed(took: Took, reference: Reference) -> PrintedLine
     ensures { result ≡ took_printed took reference }
 {
     match took {
-        Took::Taken => Printed::Taken { reference },
-        Took::Repeated => Printed::Repeated { reference },
+        Took::Taken => PrintedLine::Taken { reference },
+        Took::Repeated => PrintedLine::Repeated { reference },
     }
 }

@@ -8,7 +8,7 @@ ghost use Rattle.ssim_program.specs.Withdrawing.{RefusesReferences, WithdrawsFro
 ghost use Rattle.ssim_program.specs.internal.Program.{Prepares, stored};
 
 use crate::desk_file::{keep, open_holdings};
-use crate::print::printed::{Printed, add_line};
+use crate::print::printed_line::{PrintedLine, add_line};
 use crate::refusal::Refusal;
 use crate::store::Store;
 use ssim_desk::Holdings;
@@ -54,12 +54,12 @@ fn withdraw_each(alloc: Global, desk: &mut Holdings, words: &[&str]) -> Result<V
 }
 
 /// What became of a reference, as it is printed.
-fn printed(was_held: bool, reference: Reference) -> Printed
+fn printed(was_held: bool, reference: Reference) -> PrintedLine
     ensures { result ≡ withdrawn_printed was_held reference }
 {
     if was_held {
-        Printed::Withdrawn { reference }
+        PrintedLine::Withdrawn { reference }
     } else {
-        Printed::NotHeld { reference }
+        PrintedLine::NotHeld { reference }
     }
 }

@@ -3,7 +3,7 @@ ghost use Rattle.std.specs.Prelude.{◌≡◌, IfOk, Some};
 ghost use Rattle.std.specs.List.{flat_map};
 ghost use Rattle.ssim_program.specs.rehearse.Rehearsal.{printed_line, rehearsal_text};
 
-use crate::print::printed::add_line;
+use crate::print::printed_line::add_line;
 use crate::refusal::Refusal;
 use ssim_desk::DeskFault;
 use ssim_schedule::ExportFault;

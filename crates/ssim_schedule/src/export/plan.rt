@@ -10,7 +10,7 @@ ghost use Rattle.ssim_schedule.specs.internal.Plan.{IsRefusedAs, pieces_count, p
 use crate::export::ExportFault;
 use crate::itinerary::{Itinerary, MOST_RECORDS};
 use crate::timetable::flight_table::{FlightPeriods, FlightTable, place};
-use crate::timetable::shared::Shared;
+use crate::timetable::copy_on_write::CopyOnWrite;
 use ssim_periods::Periods;
 use ssim_values::{Flight, Memory, Period};
 use std::alloc::Global;
@@ -62,7 +62,7 @@ impl FlightPieces {
 /// is divided.
 pub(crate) fn divide(
     alloc: Global,
-    blocks: Vec<Shared<FlightTable>>,
+    blocks: Vec<CopyOnWrite<FlightTable>>,
 ) -> Result<Vec<FlightPieces>, Memory>
     ensures plan { IfOk result (λ plan. plan.items ≡ plan_of (joined blocks.items)) }
     ensures flights { OnOk result (All (λ f. IsFlight f.flight) (joined blocks.items)) }

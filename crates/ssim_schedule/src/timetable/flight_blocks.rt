@@ -13,7 +13,7 @@ ghost use Rattle.ssim_base.specs.Timetable.{on_day};
 use crate::itinerary::Itinerary;
 use crate::leg::PlacedLeg;
 use crate::timetable::flight_table::{FlightTable, place};
-use crate::timetable::shared::Shared;
+use crate::timetable::copy_on_write::CopyOnWrite;
 use ssim_periods::{Change, Periods};
 use ssim_values::{Day, Flight, Memory, Period};
 use std::alloc::Global;
@@ -27,7 +27,7 @@ const BLOCKS: usize = 264;
 /// itinerary need not rise by sequence, as those of a `Schedule` do.
 #[derive(Drop)]
 pub(crate) struct FlightBlocks {
-    blocks: Vec<Shared<FlightTable>>,
+    blocks: Vec<CopyOnWrite<FlightTable>>,
     alloc: Global,
 }
 
@@ -159,7 +159,7 @@ impl FlightBlocks {
     }
 
     /// The blocks, whose entries together rise by number and suffix of their flights.
-    pub(crate) fn into_blocks(self) -> Vec<Shared<FlightTable>>
+    pub(crate) fn into_blocks(self) -> Vec<CopyOnWrite<FlightTable>>
         ensures value { joined result.items ≡ self }
         ensures rising { AreRising self }
     {
@@ -183,17 +183,17 @@ fn block_number(flight: Flight) -> usize
     place(flight) as usize / 1024
 }
 
-fn empty_blocks(alloc: Global) -> Result<Vec<Shared<FlightTable>>, Memory>
+fn empty_blocks(alloc: Global) -> Result<Vec<CopyOnWrite<FlightTable>>, Memory>
     ensures { IfOk result (λ blocks. blocks.items ≡ replicate 264 []) }
 {
     let mut blocks = Vec::with_capacity(alloc, BLOCKS)?;
     for _ in 0..BLOCKS {
-        blocks.push(Shared::of(alloc, FlightTable::new(alloc))?)?;
+        blocks.push(CopyOnWrite::of(alloc, FlightTable::new(alloc))?)?;
     }
     Ok(blocks)
 }
 
-fn copies(alloc: Global, blocks: &[Shared<FlightTable>]) -> Result<Vec<Shared<FlightTable>>, Memory>
+fn copies(alloc: Global, blocks: &[CopyOnWrite<FlightTable>]) -> Result<Vec<CopyOnWrite<FlightTable>>, Memory>
     ensures { IfOk result (λ copies. copies.items ≡ blocks.now) }
 {
     let mut copies = Vec::with_capacity(alloc, blocks.len())?;

@@ -13,7 +13,7 @@ ghost use Rattle.ssim_schedule.specs.internal.Blocks.{IsBlock, block_of};
 
 use crate::itinerary::Itinerary;
 use crate::leg::PlacedLeg;
-use crate::timetable::shared::{Duplicate, Shared};
+use crate::timetable::copy_on_write::{Duplicate, CopyOnWrite};
 use ssim_periods::{Change, Periods};
 use ssim_values::{Day, Flight, Memory, Period};
 use std::alloc::Global;
@@ -23,7 +23,7 @@ use std::marker::Model;
 #[derive(Drop)]
 pub(crate) struct FlightPeriods {
     pub(crate) flight: Flight,
-    pub(crate) periods: Shared<Periods<Itinerary>>,
+    pub(crate) periods: CopyOnWrite<Periods<Itinerary>>,
 }
 
 /// The itineraries of those flights of a block that were named, by number and suffix of the flight.
@@ -109,7 +109,7 @@ impl FlightTable {
             Err(gap) => {
                 let mut periods = Periods::new(self.alloc);
                 let counts = periods.apply(period, change)?;
-                let periods = Shared::of(self.alloc, periods)?;
+                let periods = CopyOnWrite::of(self.alloc, periods)?;
                 self.flights.insert(gap, FlightPeriods { flight, periods })?;
                 Ok(counts)
             }
@@ -122,7 +122,7 @@ impl FlightTable {
     {
         if let Ok(place) = self.search(flight) {
             let shared = self.flights[place].periods.get().shared()?;
-            self.flights[place].periods = Shared::of(self.alloc, shared)?;
+            self.flights[place].periods = CopyOnWrite::of(self.alloc, shared)?;
         }
         Ok(())
     }
@@ -149,7 +149,7 @@ impl FlightTable {
         ensures block { (k : ℕ) → IsBlock k self.old → block_of flight ≡ k → IsBlock k self.new }
         ensures err { OnErr result (self.new ≡ self.old) }
     {
-        let periods = Shared::of(self.alloc, periods)?;
+        let periods = CopyOnWrite::of(self.alloc, periods)?;
         match self.search(flight) {
             Ok(place) => {
                 self.flights[place] = FlightPeriods { flight, periods };

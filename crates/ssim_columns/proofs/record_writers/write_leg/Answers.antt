@@ -1,7 +1,7 @@
 -- The parts, each written after those before it, are the record.
 use Rattle.std.proofs.Common.{◌≡◌, ◌∙◌, arith, lit≤, refl, sym}
 use Rattle.std.specs.Prelude.{slice_range}
-use Rattle.ssim_columns.proofs.lemmas.Overwriting.{all_added}
+use Rattle.ssim_columns.proofs.lemmas.Overlay.{all_added}
 use Rattle.ssim_columns.proofs.lemmas.OwnColumns.{own_middle, own_service, own_tail}
 use Rattle.ssim_columns.proofs.record_writers.write_leg.Goals as goal
 

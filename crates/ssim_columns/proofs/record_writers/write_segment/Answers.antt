@@ -1,7 +1,7 @@
 -- The parts, each written after those before it, are the record.
 use Rattle.std.proofs.Common.{[], ◌++◌, ◌∙◌, arith, refl}
 use Rattle.ssim_columns.specs.Numbers.{digits}
-use Rattle.ssim_columns.proofs.lemmas.Overwriting.{all_added}
+use Rattle.ssim_columns.proofs.lemmas.Overlay.{all_added}
 use Rattle.ssim_columns.proofs.lemmas.Segments.{own_cut}
 use Rattle.ssim_columns.proofs.record_writers.write_segment.Goals as goal
 

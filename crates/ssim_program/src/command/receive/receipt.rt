@@ -10,7 +10,7 @@ ghost use Rattle.ssim_program.specs.internal.Receive.{receipt_of, receipts_of};
 
 use crate::command::take::printed;
 use crate::print::name::printed_name;
-use crate::print::printed::add_line;
+use crate::print::printed_line::add_line;
 use crate::refusal::Refusal;
 use itoa::Buffer;
 use ssim_base::Place;

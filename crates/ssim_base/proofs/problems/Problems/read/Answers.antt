@@ -75,7 +75,7 @@ returns-in-Ok-None-clause-ok g c =
     let so = i.so_far in
     let answer : c.next_block.result ≡ Ok None = search rules in
     let gives = subst (λ (a : BlockAnswer). GivesNextBlock old (g.R.Source.state c.loop-next.reader).left new (g.R.Source.state c.next_block.new.reader).left a) answer (while-open old.ended i.open' c.next_block.ensures.record) in
-    let faults = c.in_ok-problems-in-Ok-None.ensures.faults so.standing so.stands in
+    let faults = c.in_ok-problems-in-Ok-None.ensures.faults so.standing so.checks_are in
     problems-end c.args.limit (g.R.Source.state c.args.reader.now).left (g.R.Source.state c.loop-next.reader).left (g.R.Source.state c.next_block.new.reader).left old new i.blocks found p i.limit_is so i.told gives
     c.in_ok-problems-in-Ok-None.ensures.records
     (subst (λ (n : ℕ). p.faults.items ≡ found.faults.items ++ numbered (n + 1) (missing_in so.standing found.trailer)) c.number.ensures.value faults)

@@ -1,6 +1,6 @@
 -- The parts, each written after those before it, are the columns.
 use Rattle.std.proofs.Common.{◌∙◌, arith, refl}
-use Rattle.ssim_columns.proofs.lemmas.Overwriting.{all_added}
+use Rattle.ssim_columns.proofs.lemmas.Overlay.{all_added}
 use Rattle.ssim_columns.proofs.leg.leg_columns.put_own.Goals as goal
 
 pub returns : goal.returns

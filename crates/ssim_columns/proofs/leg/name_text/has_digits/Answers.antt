@@ -7,7 +7,7 @@ use Rattle.ssim_values.specs.Characters.{is_digit}
 use Rattle.ssim_columns.specs.Columns.{columns}
 use Rattle.ssim_columns.specs.Heads.{HasDigits}
 use Rattle.ssim_columns.proofs.lemmas.Numbers.{digits_some, some_digits}
-use Rattle.ssim_columns.proofs.lemmas.Overwriting.{slice_cut}
+use Rattle.ssim_columns.proofs.lemmas.Overlay.{slice_cut}
 use Rattle.ssim_columns.proofs.lemmas.Rows.{both_true}
 use Rattle.ssim_columns.proofs.lemmas.Slices.{length_slice}
 use Rattle.ssim_columns.proofs.leg.name_text.has_digits.Goals as goal

@@ -1,6 +1,6 @@
 -- The parts, each written after those before it, are the tail.
 use Rattle.std.proofs.Common.{◌∙◌, arith}
-use Rattle.ssim_columns.proofs.lemmas.Overwriting.{all_added}
+use Rattle.ssim_columns.proofs.lemmas.Overlay.{all_added}
 use Rattle.ssim_columns.proofs.lemmas.Segments.{tail_cut}
 use Rattle.ssim_columns.proofs.segment.segment_tail.put_tail.Goals as goal
 

@@ -6,8 +6,8 @@ use Rattle.ssim_held.specs.Entries.{map_of}
 use Rattle.ssim_text.specs.Reference.{SpellsReference}
 use Rattle.ssim_base.specs.Export.{line}
 use Rattle.ssim_program.specs.Withdrawing.{Withdraws}
-use Rattle.ssim_program.specs.print.Printed.{printed_text}
-use Rattle.ssim_program.specs.declared.print.printed.Printed.{Printed}
+use Rattle.ssim_program.specs.print.PrintedLine.{printed_text}
+use Rattle.ssim_program.specs.declared.print.printed_line.PrintedLine.{PrintedLine}
 use Rattle.ssim_program.proofs.NamedFlights.{next_word, no_word}
 use Rattle.ssim_program.proofs.Withdrawing.{all_withdrawn, one_more}
 use Rattle.ssim_program.proofs.command.withdraw.withdraw_each.Goals as goal
@@ -27,7 +27,7 @@ loop-word-preserved c =
       withdrawn = one_more (map (λ t. t.now) words) i _ (map_of c.args.desk.now.held) so_far (map_of c.withdraw-was_held.new.self.held) c.loop-word.lines.items c.add_line.new.lines.items reference c.withdraw-was_held.result
           (next_word (λ t. t.now) words i (record { ref_ptr = (0, 0); now = [] }) c.loop-word-test.true) c.loop-word.invariant.withdrawn
           (subst (SpellsReference reference) c.as_bytes.ensures.value c.in-Ok.ensures.ok) c.withdraw-was_held.ensures.held c.withdraw-was_held.ensures.was_held
-          (c.in_ok-add_line.ensures ∙ ap (λ (p : Printed). c.loop-word.lines.items ++ line (printed_text p)) c.printed.ensures);
+          (c.in_ok-add_line.ensures ∙ ap (λ (p : PrintedLine). c.loop-word.lines.items ++ line (printed_text p)) c.printed.ensures);
       base = c.withdraw-was_held.ensures.base ∙ c.loop-word.invariant.base;
     }
 

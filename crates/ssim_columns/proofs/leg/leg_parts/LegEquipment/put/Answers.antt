@@ -2,7 +2,7 @@
 use Rattle.std.proofs.Common.{◌≡◌, ◌∙◌, refl, sym, subst}
 use Rattle.ssim_columns.specs.LegParts.{ChangesEquipment, equipment_fields}
 use Rattle.ssim_columns.proofs.lemmas.LegChanges.{equipment_changes, equipment_writes, equipment_written}
-use Rattle.ssim_columns.proofs.lemmas.Overwriting.{written}
+use Rattle.ssim_columns.proofs.lemmas.Overlay.{written}
 use Rattle.ssim_columns.proofs.leg.leg_parts.LegEquipment.put.Goals as goal
 
 all_written : (c : goal.After-put_filled-4) → c.put_filled-4.new.bytes ≡ written (equipment_writes (equipment_fields c.args.self.now)) c.args.bytes.now

@@ -2,7 +2,7 @@
 use Rattle.std.proofs.Common.{◌≡◌, ◌∙◌, refl, sym, subst}
 use Rattle.ssim_columns.specs.LegParts.{ChangesTimes}
 use Rattle.ssim_columns.proofs.lemmas.LegChanges.{time_writes, times_change, times_written}
-use Rattle.ssim_columns.proofs.lemmas.Overwriting.{written}
+use Rattle.ssim_columns.proofs.lemmas.Overlay.{written}
 use Rattle.ssim_columns.proofs.leg.leg_parts.LegTimes.put.Goals as goal
 
 all_written : (c : goal.After-put-5) → c.put-5.new.bytes ≡ written (time_writes c.args.self.now) c.args.bytes.now

@@ -4,7 +4,7 @@ use Rattle.std.specs.Prelude.{replicate}
 use Rattle.ssim_values.specs.Station.{is_station}
 use Rattle.ssim_columns.specs.Segment.{IsTail, new_tail}
 use Rattle.ssim_columns.proofs.lemmas.NewTails.{is_new_tail, tail_writes, tail_written}
-use Rattle.ssim_columns.proofs.lemmas.Overwriting.{written}
+use Rattle.ssim_columns.proofs.lemmas.Overlay.{written}
 use Rattle.ssim_columns.proofs.segment.segment_tail.SegmentTail.new.Goals as goal
 
 board_is : (c : goal.After-bytes-10-1) → IsTrue (is_station c.args.board)
