@@ -51,4 +51,4 @@ pub use ssim_columns::{
     SegmentTail, leg_fields,
 };
 pub use ssim_values::TimeMode;
-pub use stream::{Input, Output};
+pub use stream::{Input, Output, put_counted};

@@ -87,17 +87,30 @@ impl<W: Write> Sink for Output<W> {
         ensures writer { WriteAppends (W.contents self.old.writer) (W.contents self.new.writer)
             result bytes.now }
     {
-        match self.writer.write(bytes) {
-            Ok(n) => {
-                if n == 0 && !bytes.is_empty() {
-                    self.failures = self.failures.wrapping_add(1);
-                }
-                Ok(n)
+        put_counted(&mut self.writer, &mut self.failures, bytes)
+    }
+}
+
+/// Passes bytes to a writer of std, as [`Sink::put`] does, and counts a failure.
+pub fn put_counted<W: Write>(
+    writer: &mut W,
+    failures: &mut u64,
+    bytes: &[u8],
+) -> Result<usize, DeviceFault>
+    ensures bound { WritesAtMost result bytes.now }
+    ensures bytes { WriteAppends (W.contents writer.old) (W.contents writer.new) result bytes.now }
+    ensures failures { CountsPut failures.old failures.new result bytes.now }
+{
+    match writer.write(bytes) {
+        Ok(n) => {
+            if n == 0 && !bytes.is_empty() {
+                *failures = failures.wrapping_add(1);
             }
-            Err(_) => {
-                self.failures = self.failures.wrapping_add(1);
-                Err(DeviceFault::Failed)
-            }
+            Ok(n)
+        }
+        Err(_) => {
+            *failures = failures.wrapping_add(1);
+            Err(DeviceFault::Failed)
         }
     }
 }

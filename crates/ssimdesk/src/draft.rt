@@ -1,10 +1,9 @@
 //! A file while it is written.
 
-ghost use Rattle.std.specs.Prelude.{None};
-
 use ssim_program::{Content, StoreFault};
-use ssim_records::{DeviceFault, Sink};
+use ssim_records::Output;
 use std::alloc::Global;
+use std::io;
 use std::io::{BufWriter, Error, ErrorKind, Write};
 
 /// The size of the buffer of a file that is written.
@@ -18,44 +17,39 @@ pub(crate) fn fault_of(error: &Error) -> StoreFault {
     }
 }
 
-/// A writer with a buffer, as a sink. It remembers why it failed.
+/// A writer with a buffer that remembers why it failed.
 #[derive(Drop)]
 struct Draft<W: Write + Drop> {
     writer: BufWriter<W>,
-    failures: u64,
     fault: StoreFault,
+}
+
+impl<W: Write + Drop> Write for Draft<W> {
+    fn write(&mut self, bytes: &[u8]) -> io::Result<usize> {
+        let written = self.writer.write(bytes);
+        if let Err(error) = &written {
+            self.fault = fault_of(error);
+        }
+        written
+    }
+
+    fn flush(&mut self) -> io::Result<()> {
+        let flushed = self.writer.flush();
+        if let Err(error) = &flushed {
+            self.fault = fault_of(error);
+        }
+        flushed
+    }
 }
 
 impl<W: Write + Drop> Draft<W> {
     /// Writes the content. After a failure nothing more is written.
     fn put_all<C: Content>(&mut self, content: &C) -> Result<(), StoreFault> {
-        if content.put(self).is_err() {
+        let put = content.put(&mut Output::new(&mut *self));
+        if put.is_err() || self.flush().is_err() {
             return Err(self.fault);
         }
-        match self.writer.flush() {
-            Ok(()) => Ok(()),
-            Err(error) => Err(fault_of(&error)),
-        }
-    }
-}
-
-impl<W: Write + Drop> Sink for Draft<W> {
-    ghost state = { λ s. record { taken = None; failures = s.failures; device = 0 } };
-
-    fn put(&mut self, bytes: &[u8]) -> Result<usize, DeviceFault> {
-        match self.writer.write(bytes) {
-            Ok(n) => {
-                if n == 0 && !bytes.is_empty() {
-                    self.failures = self.failures.wrapping_add(1);
-                }
-                Ok(n)
-            }
-            Err(error) => {
-                self.failures = self.failures.wrapping_add(1);
-                self.fault = fault_of(&error);
-                Err(DeviceFault::Failed)
-            }
-        }
+        Ok(())
     }
 }
 
@@ -70,7 +64,6 @@ pub(crate) fn put_whole<W: Write + Drop, C: Content>(
     };
     let mut draft = Draft {
         writer,
-        failures: 0,
         fault: StoreFault::Fault,
     };
     let put = draft.put_all(content);

@@ -37,16 +37,16 @@ impl<'r, R> FileStore<'r, R> {
 }
 
 impl<R: Files + Input> Store for FileStore<'_, R> {
-    type File = OpenFile<R::File, R::Reader>;
+    type File = ssim_records::Input<OpenFile<R::File, R::Reader>>;
 
     ghost failures = { λ s. s.failures };
 
     fn open(&mut self, _alloc: Global, name: &str) -> Result<Self::File, StoreFault> {
         if name == "-" {
-            return Ok(OpenFile::standard(self.rt.reader()));
+            return Ok(ssim_records::Input::new(OpenFile::Standard(self.rt.reader())));
         }
         match fs::open(self.rt, name) {
-            Ok(file) => Ok(OpenFile::named(file)),
+            Ok(file) => Ok(ssim_records::Input::new(OpenFile::Named(file))),
             Err(error) => Err(fault_of(&error)),
         }
     }

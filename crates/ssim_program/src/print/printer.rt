@@ -7,7 +7,7 @@ ghost use Rattle.ssim_program.specs.internal.Print.{Prints, PrintsPart};
 
 use crate::refusal::Refusal;
 use ssim_base::put_all;
-use ssim_records::{DeviceFault, Sink};
+use ssim_records::{DeviceFault, Sink, put_counted};
 use std::io::Write;
 use std::marker::Model;
 
@@ -72,18 +72,7 @@ impl<W: Write> Sink for Printer<'_, W> {
 
     fn put(&mut self, bytes: &[u8]) -> Result<usize, DeviceFault> {
         self.flushed = false;
-        match self.writer.write(bytes) {
-            Ok(n) => {
-                if n == 0 && !bytes.is_empty() {
-                    self.failures = self.failures.wrapping_add(1);
-                }
-                Ok(n)
-            }
-            Err(_) => {
-                self.failures = self.failures.wrapping_add(1);
-                Err(DeviceFault::Failed)
-            }
-        }
+        put_counted(self.writer, &mut self.failures, bytes)
     }
 }
 
