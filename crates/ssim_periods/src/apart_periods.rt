@@ -3,7 +3,7 @@ ghost use Rattle.std.specs.Prelude.{◌≡◌, ◌≢◌, ℕ, ◌+◌, ◌<◌,
 ghost use Rattle.std.specs.List.{All, Contains};
 ghost use Rattle.std.specs.List.Sorted.{IsStrictlyIncreasing};
 ghost use Rattle.ssim_values.specs.Calendar.{weekday};
-ghost use Rattle.ssim_periods.specs.internal.Apart.{empty_week, value_in, AreApart, AreDivided};
+ghost use Rattle.ssim_periods.specs.internal.Apart.{empty_week, list_seen, AreApart, AreDivided};
 ghost use Rattle.ssim_periods.specs.Calendar.{day_count, holds};
 ghost use Rattle.ssim_periods.specs.Days.{each_day, changed_by_each, changed_on, counts_on, ends_of, AddsOnly};
 ghost use Rattle.ssim_periods.specs.Pieces.{pieces_of, held_on};
@@ -54,15 +54,12 @@ pub(crate) struct ApartPeriods<V: Value> {
 
 impl<V: Value> Model for ApartPeriods<V> {
     ghost use Rattle.std.specs.Prelude.{◌≡◌};
-    ghost use Rattle.ssim_periods.specs.internal.Apart.{empty_week, value_in, AreApart};
-    ghost use Rattle.ssim_periods.specs.Days.{Seen, each_day};
+    ghost use Rattle.ssim_periods.specs.internal.Apart.{empty_week, list_seen, AreApart};
+    ghost use Rattle.ssim_periods.specs.Days.{Seen};
 
     ghost Value = { Seen V };
 
-    ghost view = { λ p. record {
-      days = each_day (value_in V.nothing p.entries.items);
-      cuts = p.cuts.days;
-    } };
+    ghost view = { λ p. list_seen V.nothing p.entries.items p.cuts.days };
 
     ghost invariant = { λ p. (p.empty ≡ empty_week V.nothing)
         × AreApart V.nothing p.entries.items p.cuts.days };
@@ -72,8 +69,7 @@ impl<V: Value> ApartPeriods<V> {
     /// The values of these periods, with these cuts.
     fn of(alloc: Global, entries: Vec<(Period, V)>, cuts: SpacedDays) -> ApartPeriods<V>
         requires { AreApart V.nothing entries.items cuts.days }
-        ensures days { result.days ≡ each_day (value_in V.nothing entries.items) }
-        ensures cuts { result.cuts ≡ cuts.days }
+        ensures { result ≡ list_seen V.nothing entries.items cuts.days }
     {
         ApartPeriods {
             empty: empty_row(),

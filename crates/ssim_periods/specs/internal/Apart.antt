@@ -5,7 +5,7 @@ use Rattle.std.specs.List.Sorted.{IsStrictlyIncreasing}
 use Rattle.ssim_values.specs.Period.{DayRange}
 use Rattle.ssim_periods.specs.Calendar.{day_count, holds, slot}
 use Rattle.ssim_periods.specs.Cover.{cover}
-use Rattle.ssim_periods.specs.Days.{changed_by_each, each_day, ends_of}
+use Rattle.ssim_periods.specs.Days.{Seen, changed_by_each, each_day, ends_of}
 use Rattle.ssim_periods.specs.Pieces.{held_on}
 
 -- what contracts see of a list of days that grows at both ends: the days, and for how many more
@@ -24,6 +24,10 @@ empty_week nothing = nothing ∷ nothing ∷ nothing ∷ nothing ∷ nothing ∷
 abbrev pub value_in : {V : Type 0} → V → List (DayRange × V) → ℕ → V
 value_in nothing [] n = nothing
 value_in nothing (given ∷ later) n = value_in (if holds given.0 n then given.1 else nothing) later n
+
+-- what contracts see of a list of periods with values
+abbrev pub list_seen : {V : Type 0} → V → List (DayRange × V) → List ℕ → Seen V
+list_seen nothing periods cuts = record { days = each_day (value_in nothing periods); cuts = cuts }
 
 -- the cuts have the first day of each period and the day after its last
 abbrev pub AreDivided : {V : Type 0} → List ℕ → List (DayRange × V) → Type 0
