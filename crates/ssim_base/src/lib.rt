@@ -43,6 +43,7 @@ mod summary;
 pub use base::{Base, BaseRead};
 pub use base_frame::BaseFrame;
 pub use data_set::DataSet;
+pub use data_set::acceptance::validity_end;
 pub use data_set::saved_lines::{SavedFault, read_saved};
 pub use fault::{BaseFault, BaseRefusal};
 pub use note::Note;

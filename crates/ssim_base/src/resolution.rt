@@ -6,7 +6,7 @@ ghost use Rattle.ssim_base.specs.Resolve.{AreDates, AreResolved, IsFirstRefused,
 ghost use Rattle.ssim_base.specs.internal.Reading.{AreFaulty};
 
 use crate::base::Base;
-use crate::data_set::acceptance::end_of;
+use crate::data_set::acceptance::validity_end;
 use crate::place::Place;
 use crate::sub_message::ResolvedSub;
 use ssim_records::Carrier;
@@ -122,7 +122,7 @@ fn end_meant(carrier: &Carrier, first: Day, end: GivenEnd) -> Option<Day>
 {
     match end {
         GivenEnd::Until(date) => day_meant(first, date),
-        GivenEnd::Open => Some(end_of(carrier)),
+        GivenEnd::Open => Some(validity_end(carrier)),
     }
 }
 

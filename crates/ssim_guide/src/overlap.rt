@@ -1,14 +1,21 @@
 //! The words on an overlap: the other record, and a date that both have.
 
-use crate::lines::{push_line, push_number, push_shown};
-use crate::record_words::{after_record, columns_of, first_record, record_at};
-use ssim_records::Field;
-use ssim_records::leg_fields::{DAYS, FIRST_DAY, FLIGHT_NUMBER, LAST_DAY, LEG_SEQUENCE, SUFFIX};
-use ssim_values::{Day, DayMask, Period};
+use crate::lines::{push_number, push_shown};
+use crate::record_words::{after_record, first_record, record_at};
+use ssim_base::validity_end;
+use ssim_records::{LegRecord, Record, read_record};
+use ssim_values::{Day, Period};
 use std::alloc::{AllocError, Global};
 
-/// How many days after its start a validity with an open end ends.
-const OPEN_DAYS: u16 = 730;
+/// Two records with one flight and leg sequence on a common date.
+#[derive(Clone, Copy, Debug)]
+struct Overlap<'b> {
+    /// The number and the bytes of the earlier record.
+    other: u64,
+    found: &'b [u8],
+    /// The first date that both have.
+    day: Day,
+}
 
 /// The lines on the record with this number, and on the first one before it that has its flight and
 /// leg sequence on a common date.
@@ -16,53 +23,66 @@ pub fn words_on_overlap(alloc: Global, bytes: &[u8], number: u64) -> Result<Vec<
     let mut lines = Vec::new(alloc);
     if let Some(record) = record_at(bytes, number) {
         push_shown(&mut lines, "record", record)?;
-        if let Some((other, found, day)) = overlap_of(bytes, record, number) {
-            push_shown(&mut lines, "other record", found)?;
-            lines.extend_from_slice(b"its number: ")?;
-            push_number(&mut lines, other as usize)?;
-            lines.extend_from_slice(b"\ncommon date: ")?;
-            lines.extend_from_slice(&day.write())?;
-            lines.push(b'\n')?;
+        if let Some(overlap) = overlap_of(bytes, record, number) {
+            push_overlap(&mut lines, &overlap)?;
         }
     }
     Ok(lines)
 }
 
+/// Adds the lines on the earlier record.
+fn push_overlap(lines: &mut Vec<u8>, overlap: &Overlap<'_>) -> Result<(), AllocError> {
+    push_shown(lines, "other record", overlap.found)?;
+    lines.extend_from_slice(b"its number: ")?;
+    push_number(lines, overlap.other as usize)?;
+    lines.extend_from_slice(b"\ncommon date: ")?;
+    lines.extend_from_slice(&overlap.day.write())?;
+    lines.push(b'\n')?;
+    Ok(())
+}
+
 /// The first record before the one with this number that has its flight and leg sequence on a date
-/// of it: its number, its bytes and the first such date.
-fn overlap_of<'b>(bytes: &'b [u8], record: &[u8], number: u64) -> Option<(u64, &'b [u8], Day)> {
+/// of it.
+fn overlap_of<'b>(bytes: &'b [u8], record: &[u8], number: u64) -> Option<Overlap<'b>> {
+    let leg = leg_in(record)?;
     let mut rest = bytes;
-    let mut end = last_day()?;
-    for earlier in 1..number {
-        let other = first_record(rest);
-        if other.first() == Some(&b'2') {
-            end = end_of_validity(other)?;
-        }
-        if is_same_leg(other, record) {
-            if let Some(day) = common_day(other, record, end) {
-                return Some((earlier, other, day));
+    let mut end = None;
+    for other in 1..number {
+        let found = first_record(rest);
+        match record_in(found) {
+            Some(Record::Carrier(carrier)) => end = Some(validity_end(&carrier)),
+            Some(Record::Leg(earlier)) if is_same_leg(&earlier, &leg) => {
+                if let Some(day) = common_day(&earlier, &leg, end?) {
+                    return Some(Overlap { other, found, day });
+                }
             }
+            _ => {}
         }
         rest = after_record(rest)?;
     }
     None
 }
 
-/// Whether two leg records have one spelling of flight and leg sequence.
-fn is_same_leg(one: &[u8], other: &[u8]) -> bool {
-    one.first() == Some(&b'3')
-        && columns_of(one, SUFFIX.first, FLIGHT_NUMBER.last)
-            == columns_of(other, SUFFIX.first, FLIGHT_NUMBER.last)
-        && text(one, LEG_SEQUENCE) == text(other, LEG_SEQUENCE)
+/// What 200 bytes say, if they are a valid record.
+fn record_in(bytes: &[u8]) -> Option<Record> {
+    read_record(bytes.as_array()?).ok()
 }
 
-/// A field of a leg record.
-fn text(record: &[u8], field: Field) -> Option<&[u8]> {
-    columns_of(record, field.first, field.last)
+/// The flight leg record that 200 bytes are.
+fn leg_in(bytes: &[u8]) -> Option<LegRecord> {
+    match record_in(bytes)? {
+        Record::Leg(leg) => Some(leg),
+        _ => None,
+    }
+}
+
+/// Whether two leg records have one flight and leg sequence.
+fn is_same_leg(one: &LegRecord, other: &LegRecord) -> bool {
+    one.flight() == other.flight() && one.name().sequence() == other.name().sequence()
 }
 
 /// The first day that the periods of two leg records have in common. An open end is this day.
-fn common_day(one: &[u8], other: &[u8], end: Day) -> Option<Day> {
+fn common_day(one: &LegRecord, other: &LegRecord, end: Day) -> Option<Day> {
     let one = period_of(one, end)?;
     let other = period_of(other, end)?;
     for number in one.first().number()..=one.last().number() {
@@ -75,29 +95,6 @@ fn common_day(one: &[u8], other: &[u8], end: Day) -> Option<Day> {
 }
 
 /// The period of a leg record.
-fn period_of(record: &[u8], end: Day) -> Option<Period> {
-    let first = day_in(text(record, FIRST_DAY)?)?;
-    let last = day_in(text(record, LAST_DAY)?).unwrap_or(end);
-    let mask = DayMask::parse(text(record, DAYS)?).ok()?;
-    Period::new(first, last, mask).ok()
-}
-
-/// The day on which the validity of a carrier record ends: an open end is 730 days after the start,
-/// or 31DEC99 if the calendar ends before.
-fn end_of_validity(carrier: &[u8]) -> Option<Day> {
-    if let Some(end) = day_in(columns_of(carrier, 22, 28)?) {
-        return Some(end);
-    }
-    let first = day_in(columns_of(carrier, 15, 21)?)?;
-    Day::from_number(first.number() + OPEN_DAYS).or(last_day())
-}
-
-/// The last day of the calendar.
-fn last_day() -> Option<Day> {
-    day_in(b"31DEC99")
-}
-
-/// The day that seven columns spell.
-fn day_in(text: &[u8]) -> Option<Day> {
-    Day::parse(text.as_array()?).ok()
+fn period_of(leg: &LegRecord, end: Day) -> Option<Period> {
+    Period::new(leg.first(), leg.last().unwrap_or(end), leg.days()).ok()
 }

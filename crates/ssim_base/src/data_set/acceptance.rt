@@ -196,7 +196,7 @@ impl Acceptance {
             Record::Carrier(carrier) => {
                 let heading = CarrierTerms {
                     airline: carrier.airline(),
-                    end: end_of(carrier),
+                    end: validity_end(carrier),
                 };
                 *carrier = carrier.with_serial(0);
                 self.expected = Expected::Legs(heading);
@@ -343,8 +343,9 @@ fn same_airline(one: Airline, other: Airline) -> bool
     one.write().as_slice() == other.write().as_slice()
 }
 
-// The end of the carrier's validity. An open end is 730 days after the start, within the calendar.
-pub(crate) fn end_of(carrier: &Carrier) -> Day
+/// The last day of a carrier's validity. An open end is 730 days after the start, or 31DEC99 if the
+/// calendar ends before.
+pub fn validity_end(carrier: &Carrier) -> Day
     ensures { result ≡ end_of carrier.now }
 {
     match carrier.last() {

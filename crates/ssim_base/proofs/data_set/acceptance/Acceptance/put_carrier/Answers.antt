@@ -11,7 +11,7 @@ use Rattle.ssim_base.proofs.data_set.acceptance.Acceptance.put_carrier.Goals as 
 pub returns-in-Carrier-clause-accepts : goal.returns-in-Carrier-clause-accepts
 returns-in-Carrier-clause-accepts c = λ earlier is.
     let old = c.args.self.now in
-    let heading : CarrierTerms = record { airline = c.airline.result; end = c.end_of.result } in
+    let heading : CarrierTerms = record { airline = c.airline.result; end = c.validity_end.result } in
     let new : Acceptance = record { expected = expected.Legs heading; legs = old.legs } in
     rw c.in-Carrier.is (stood-carrier old new heading
     c.in-Carrier.carrier (Carrier c.with_serial.result) earlier c.requires is
