@@ -1,15 +1,17 @@
 //! The state of a case.
 
 use crate::answer::{Answer, Devices};
+use crate::desk_view;
+use crate::desk_view::add_cancels;
 use crate::desks::{Desks, place_of};
 use crate::extents::Call;
 use crate::fault::Fault;
-use crate::memory_store::MemoryStore;
-use crate::desk_view;
-use crate::desk_view::add_cancels;
-use crate::pure::{print_decoded, print_encoded, print_read, print_resolved};
 use crate::guard::Guard;
-use crate::transcript::{add_shown, number, parts, push, push_line, push_named, push_refused, show};
+use crate::memory_store::MemoryStore;
+use crate::pure::{print_decoded, print_encoded, print_read, print_resolved};
+use crate::transcript::{
+    add_shown, number, parts, push, push_line, push_named, push_refused, show,
+};
 use ssim_desk::Step;
 use ssim_program::{Refusal, Store, StoreFault};
 use ssim_records::Bytes;

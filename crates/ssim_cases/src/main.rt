@@ -70,10 +70,10 @@ mod desks;
 mod devices;
 mod extents;
 mod fault;
+mod guard;
 mod memory_file;
 mod memory_store;
 mod pure;
-mod guard;
 mod transcript;
 
 use case::Case;

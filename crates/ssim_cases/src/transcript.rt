@@ -1,7 +1,7 @@
 //! Bytes in readable form.
 
 use crate::fault::Fault;
-use ssim_program::Refusal;
+use ssim_program::{Refusal, RefusalLine};
 use std::fmt::Display;
 use std::io::Write;
 
@@ -41,7 +41,7 @@ pub fn push_named<T: Display>(out: &mut Vec<u8>, word: &str, value: &T) -> Resul
 
 /// Adds the line of a refusal.
 pub fn push_refused(out: &mut Vec<u8>, refusal: &Refusal) -> Result<(), Fault> {
-    push_value(out, refusal)?;
+    push_value(out, &RefusalLine { refusal })?;
     Ok(out.push(b'\n')?)
 }
 

@@ -4,7 +4,7 @@
 //!   over two [`Printer`]s, which count the failures of their writers. [`parse`] of
 //!   `ssim_command_line` gives the [`Request`] that the words name.
 //! - [`Content`]: what a store keeps, as the desk file of [`ssim_desk::Holdings`].
-//! - [`Refusal`]: why a command was refused, as its line; [`PrintedLine`]: the lines that commands
+//! - [`Refusal`]: why a command was refused; [`RefusalLine`]: its line; [`PrintedLine`]: the lines that commands
 //!   print.
 //! - [`laws`]: offices to whose desks the same messages were brought have the same desk file; a
 //!   rehearsal of such desks ends with `same`; what `tidy` wrote is tidied to itself; the refusal of
@@ -37,6 +37,7 @@ mod word;
 pub use content::Content;
 pub use print::printed_line::PrintedLine;
 pub use print::printer::Printer;
+pub use print::refusal_line::RefusalLine;
 pub use program::{run, run_on};
 pub use refusal::Refusal;
 pub use ssim_command_line::{LineFault, ListForm, Request, parse};

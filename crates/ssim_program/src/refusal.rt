@@ -1,5 +1,5 @@
 //! Why a command was refused, as it is printed.
-ghost use Rattle.std.specs.Prelude.{◌≡◌, IfOk, Some, option_map};
+ghost use Rattle.std.specs.Prelude.{◌≡◌, IfOk, option_map};
 ghost use Rattle.ssim_base.specs.Export.{line};
 ghost use Rattle.ssim_program.specs.print.Refusal.{IsOfFile, refusal_file, refusal_name};
 ghost use Rattle.ssim_program.specs.print.Refusal.{refusal_number};
@@ -8,50 +8,60 @@ ghost use Rattle.ssim_program.specs.print.Refusal.{refusal_of_export, refusal_of
 ghost use Rattle.ssim_program.specs.print.Refusal.{refusal_of_stations, refusal_of_value};
 ghost use Rattle.ssim_program.specs.print.Refusal.{refusal_place, refusal_text};
 
-use crate::print::fault_line::FaultLine;
 use crate::print::name::printed_name;
 use crate::print::printed_line::line_of;
+use crate::print::refusal_line::RefusalLine;
 use ssim_base::{BaseFault, Place, StationFault};
 use ssim_desk::DeskFault;
 use ssim_outbox::OutboxFault;
 use ssim_schedule::ExportFault;
 use ssim_values::{Airline, Fault, Memory};
 use std::alloc::{AllocError, AllocFailed, Global};
-use std::error::Error;
-use std::fmt;
+use thiserror::Error;
 
-/// Why a command was refused: a fault of one of the crates below, or one of the program's own. It
-/// is displayed as its line on standard error: `refused`, the number, the name, and what it names.
-#[derive(Debug, Drop)]
+/// Why a command was refused: a fault of one of the crates below, or one of the program's own. Its
+/// line on standard error is a [`RefusalLine`](crate::RefusalLine).
+#[derive(Debug, Drop, Error)]
 pub enum Refusal {
     /// 1 to 7: a word of the command line is no value of the kind.
+    #[error("{0}")]
     Value(Fault),
     /// 21: a word of the command line is no reference.
+    #[error("expected a reference")]
     Reference,
     /// 10 to 14, or 30 to 38: the data set is invalid at a record.
+    #[error("{0}")]
     DataSet(BaseFault),
     /// 39: the station table is invalid at a line.
+    #[error("{0}")]
     Stations(StationFault),
     /// 13, 14, 20 to 29, 40 to 43, or 60 to 62: a text, a message, another desk or a desk file is
     /// refused.
+    #[error("{0}")]
     Desk(DeskFault),
     /// 21, 40 to 42, 64 or 65: no messages lead one timetable to another.
+    #[error("{0}")]
     Publication(OutboxFault),
     /// 50 or 51: the flights of the airline have no export. The flight of 50 is printed as a
     /// designator.
+    #[error("{fault}")]
     Export {
         airline: Airline,
         fault: ExportFault,
     },
     /// 52: what is printed could not be written.
+    #[error("what is printed could not be written")]
     WriteFault,
     /// 63: the line of the desk script is invalid.
+    #[error("line {line} of the desk script is invalid")]
     Script {
         line: u64,
     },
     /// 90: memory ran out.
+    #[error("out of memory")]
     Memory,
     /// 91: the file was not read within the limit, or not written. The name is as it is printed.
+    #[error("the file {name} was not read within the limit, or not written")]
     File {
         name: String,
     },
@@ -129,33 +139,9 @@ impl Refusal {
     pub(crate) fn line(&self, alloc: Global) -> Result<Vec<u8>, Memory>
         ensures { IfOk result (λ bytes. bytes.items ≡ line (refusal_text self.now)) }
     {
-        line_of(alloc, self)
+        line_of(alloc, &RefusalLine { refusal: self })
     }
 }
-
-impl fmt::Display for Refusal {
-    ghost output = { λ r. Some (refusal_text r) };
-
-    fn fmt<W: fmt::Write>(&self, f: &mut fmt::Formatter<W>) -> fmt::Result {
-        let number = self.number();
-        let name = self.name();
-        if let Some(file) = self.file() {
-            return write!(f, "refused {number} {name} {file}");
-        }
-        let place = self.place();
-        write!(
-            f,
-            "refused {}",
-            FaultLine {
-                number,
-                name,
-                place
-            }
-        )
-    }
-}
-
-impl Error for Refusal {}
 
 impl Refusal {
     /// 91 with the name of the file, or 90 if there is no memory for the name.

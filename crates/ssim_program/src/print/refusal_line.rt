@@ -1,6 +1,6 @@
-//! The line of a refusal, printed piece by piece. Nothing here allocates.
+//! The line of a refusal, displayed or printed piece by piece. Nothing here allocates.
 
-ghost use Rattle.std.specs.Prelude.{◌++◌, ◌∷◌, codes, decimal};
+ghost use Rattle.std.specs.Prelude.{◌++◌, ◌∷◌, Some, codes, decimal};
 ghost use Rattle.ssim_values.specs.Designator.{designator_text};
 ghost use Rattle.ssim_text.specs.Reference.{printed_originator, printed_reference};
 ghost use Rattle.ssim_base.specs.Export.{line};
@@ -9,13 +9,44 @@ ghost use Rattle.ssim_program.specs.print.Refusal.{named_text, place_text, refus
 ghost use Rattle.ssim_program.specs.print.Refusal.{refusal_head};
 ghost use Rattle.ssim_program.specs.print.Refusal.{refusal_place, refusal_text};
 
+use crate::print::fault_line::FaultLine;
 use crate::print::printer::{Printer, print_all, put_parts};
 use crate::refusal::Refusal;
 use itoa::Buffer;
 use ssim_base::Place;
 use ssim_text::{Originator, Reference};
 use ssim_values::Designator;
+use std::fmt;
 use std::io::Write;
+
+/// The line of a refusal on standard error, without its end: `refused`, the number, the name, and
+/// what the refusal names, as: refused 12 BadColumn record 3 column 37.
+#[derive(Clone, Copy, Debug)]
+pub struct RefusalLine<'r> {
+    pub refusal: &'r Refusal,
+}
+
+impl fmt::Display for RefusalLine<'_> {
+    ghost output = { λ l. Some (refusal_text l.refusal.now) };
+
+    fn fmt<W: fmt::Write>(&self, f: &mut fmt::Formatter<W>) -> fmt::Result {
+        let number = self.refusal.number();
+        let name = self.refusal.name();
+        if let Some(file) = self.refusal.file() {
+            return write!(f, "refused {number} {name} {file}");
+        }
+        let place = self.refusal.place();
+        write!(
+            f,
+            "refused {}",
+            FaultLine {
+                number,
+                name,
+                place
+            }
+        )
+    }
+}
 
 /// Prints the line of a refusal, and flushes it. Returns 52 if the writer failed, or took no byte
 /// of some.

@@ -4,6 +4,7 @@ ghost use Rattle.std.specs.List.{flat_map};
 ghost use Rattle.ssim_program.specs.rehearse.Rehearsal.{printed_line, rehearsal_text};
 
 use crate::print::printed_line::add_line;
+use crate::print::refusal_line::RefusalLine;
 use crate::refusal::Refusal;
 use ssim_desk::DeskFault;
 use ssim_schedule::ExportFault;
@@ -62,7 +63,8 @@ impl fmt::Display for RehearsalLine {
             RehearsalLine::Merged { desk } => write!(f, "{desk} merged"),
             RehearsalLine::Refused { desk, fault } => {
                 let refusal = Refusal::from(*fault);
-                write!(f, "{desk} {refusal}")
+                let line = RefusalLine { refusal: &refusal };
+                write!(f, "{desk} {line}")
             }
             RehearsalLine::Exported {
                 desk,
@@ -75,7 +77,8 @@ impl fmt::Display for RehearsalLine {
                 fault,
             } => {
                 let refusal = Refusal::of_export(*airline, *fault);
-                write!(f, "desk {desk} {refusal}")
+                let line = RefusalLine { refusal: &refusal };
+                write!(f, "desk {desk} {line}")
             }
             RehearsalLine::Same => write!(f, "same"),
             RehearsalLine::Different => write!(f, "different"),

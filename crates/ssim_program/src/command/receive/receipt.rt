@@ -11,6 +11,7 @@ ghost use Rattle.ssim_program.specs.internal.Receive.{receipt_of, receipts_of};
 use crate::command::take::printed;
 use crate::print::name::printed_name;
 use crate::print::printed_line::add_line;
+use crate::print::refusal_line::RefusalLine;
 use crate::refusal::Refusal;
 use itoa::Buffer;
 use ssim_base::Place;
@@ -99,7 +100,10 @@ impl fmt::Display for RefusedAt {
                 let line_in_file = (self.first as u128 + line as u128).saturating_sub(1);
                 write!(f, "refused {number} {name} line {line_in_file}")
             }
-            _ => write!(f, "{refusal}"),
+            _ => {
+                let line = RefusalLine { refusal: &refusal };
+                write!(f, "{line}")
+            }
         }
     }
 }
@@ -148,7 +152,8 @@ fn push_line(alloc: Global, lines: &mut Vec<u8>, receipt: &Receipt) -> Result<()
         }
         Receipt::Unread { file } => {
             let name = printed_name(alloc, file)?;
-            add_line(lines, &Refusal::File { name })
+            let refusal = Refusal::File { name };
+            add_line(lines, &RefusalLine { refusal: &refusal })
         }
     }
 }
