@@ -2,15 +2,19 @@
 
 use ssim_values::Memory;
 use std::alloc::{AllocError, AllocFailed};
+use thiserror::Error;
 
 /// Why a line was not followed.
-#[derive(Clone, Copy)]
+#[derive(Clone, Copy, Debug, Error)]
 pub enum Fault {
     /// It is not understood.
+    #[error("the line is not understood")]
     Line,
     /// Memory was refused to the program itself.
+    #[error("out of memory")]
     Memory,
     /// A call that ran out of memory changed a desk.
+    #[error("a call that ran out of memory changed a desk")]
     Changed,
 }
 

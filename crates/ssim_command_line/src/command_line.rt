@@ -77,13 +77,16 @@ pub enum Request<'a> {
 
 /// Why the words make no request. It has no number of its own: the program prints 90, or what is
 /// wrong with the words.
-#[derive(Debug, Drop)]
+#[derive(Debug, Drop, thiserror::Error)]
 pub enum LineFault {
     /// Memory ran out: refusal 90, status 1.
+    #[error("out of memory")]
     Memory,
     /// What `clap` has to say: help, status 0; or what is wrong with the words, status 2.
+    #[error("help, or what is wrong with the words")]
     Shown(Error),
     /// The words name no command: status 2.
+    #[error("the words name no command")]
     NoCommand,
 }
 

@@ -89,13 +89,9 @@ impl Desk {
         ensures ok { IfOk result
             (λ desk. Opens limit (R.state reader.old).left desk.seen.base desk.seen.held) }
         ensures applied { IfOk result (λ desk. desk.seen.applied ≡ length desk.seen.held) }
-        ensures err { IfErr result (RefusesFile limit (R.state reader.old).left) }
+        ensures err { IfErr result (RefusesDesk limit (R.state reader.old) (R.state reader.new)) }
         ensures no_failure { IfOk result (λ _. (R.state reader.new).failures
             ≡ (R.state reader.old).failures) }
-        ensures failure { IfErr result
-            (λ e. FailsAs (R.state reader.old).failures (R.state reader.new).failures e) }
-        ensures never_ends { IfErr result
-            (λ e. NeverEnds limit (Came (R.state reader.old) (R.state reader.new)) e) }
     {
         let holdings = Holdings::open(alloc, reader, limit)?;
         let desk = Desk::over(holdings)?;

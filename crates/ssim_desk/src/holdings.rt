@@ -98,13 +98,9 @@ impl Holdings {
         ensures ok { IfOk result
             (λ holdings. Opens limit (R.state reader.old).left holdings.base holdings.held) }
         ensures applied { IfOk result (λ holdings. holdings.applied ≡ 0) }
-        ensures err { IfErr result (RefusesFile limit (R.state reader.old).left) }
+        ensures err { IfErr result (RefusesDesk limit (R.state reader.old) (R.state reader.new)) }
         ensures no_failure { IfOk result (λ _. (R.state reader.new).failures
             ≡ (R.state reader.old).failures) }
-        ensures failure { IfErr result
-            (λ e. FailsAs (R.state reader.old).failures (R.state reader.new).failures e) }
-        ensures never_ends { IfErr result
-            (λ e. NeverEnds limit (Came (R.state reader.old) (R.state reader.new)) e) }
     {
         let opened = read_desk(alloc, reader, limit)?;
         Ok(Holdings::of(alloc, opened))

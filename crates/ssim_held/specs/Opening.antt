@@ -1,7 +1,9 @@
 -- What opening a desk file returns.
 use Rattle.std.specs.Prelude.{◌≡◌, ℕ, ◌+◌, ◌%◌, ◌^◌, ◌≤◌, List, length, Option, Some, None}
 use Rattle.ssim_records.specs.declared.fault.RecordFault.TheVariants.{ReadFault, ReaderNeverEnds}
+use Rattle.ssim_records.specs.Device.{Reader}
 use Rattle.ssim_base.specs.BaseSeen.{BaseSeen}
+use Rattle.ssim_base.specs.Reading.{Came}
 use Rattle.ssim_held.specs.File.{IsDeskFile}
 use Rattle.ssim_held.specs.Entries.{Entry}
 use Rattle.ssim_held.specs.declared.fault.DeskFault.{DeskFault}
@@ -43,3 +45,9 @@ RefusesFile limit left desk_fault.Memory = Unit {0}
 RefusesFile limit left (desk_fault.Read fault) = Unit {0}
 RefusesFile limit left (desk_fault.File offset) = OpensNone limit left
 RefusesFile _ _ _ = ⊥
+
+-- why no desk is opened by a reader, and what the reader has left
+pub record RefusesDesk (limit : ℕ) (before after : Reader) (fault : DeskFault) : Type 0 where
+  pub file : RefusesFile limit before.left fault
+  pub failure : FailsAs before.failures after.failures fault
+  pub never_ends : NeverEnds limit (Came before after) fault

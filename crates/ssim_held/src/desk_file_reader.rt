@@ -135,13 +135,9 @@ fn read_file<R: Source>(
 pub fn read_desk<R: Source>(alloc: Global, reader: &mut R, limit: u64) -> Result<Opened, DeskFault>
     ensures ok { IfOk result (λ desk. Opens limit (R.state reader.old).left
         (base_with desk.data_set desk.stations) desk.held.items) }
-    ensures err { IfErr result (RefusesFile limit (R.state reader.old).left) }
+    ensures err { IfErr result (RefusesDesk limit (R.state reader.old) (R.state reader.new)) }
     ensures no_failure { IfOk result (λ _. (R.state reader.new).failures
         ≡ (R.state reader.old).failures) }
-    ensures failure { IfErr result
-        (λ e. FailsAs (R.state reader.old).failures (R.state reader.new).failures e) }
-    ensures never_ends { IfErr result (λ e. NeverEnds limit
-        (Came (R.state reader.old) (R.state reader.new)) e) }
 {
     let mut input = InputBuffer::new(limit);
     match read_file(alloc, &mut input, reader) {

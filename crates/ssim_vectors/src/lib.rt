@@ -4,8 +4,8 @@
 
 mod data_sets;
 mod devices;
-mod vector_names;
 mod texts;
+mod vector_names;
 
 pub use data_sets::{
     CARRIER, CARRIER_OF_YEARS, FILL, HEADER, LEG, LEG_FROM_JULY, LEG_OF_YEARS, LEG_TO_JUNE,
@@ -13,8 +13,8 @@ pub use data_sets::{
     TRAILER_OF_THREE, YEARS, add_lines,
 };
 pub use devices::{Extent, FailingReader, FailingWriter};
-pub use vector_names::add_vector;
 pub use texts::{
     EVERY_PART, EVERY_PART_WRITTEN, ONE_DATE_CANCELLED, ONE_WEEKDAY_CANCELLED, STATIONS,
     THREE_DESKS, TIMES_CHANGED_ON_MONDAYS, TWO_DESKS,
 };
+pub use vector_names::add_vector;

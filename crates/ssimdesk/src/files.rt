@@ -1,8 +1,8 @@
 //! A store whose files are the system's, with `-` as the standard input.
 
 use crate::draft::fault_of;
-use crate::open_file::OpenFile;
 use crate::file_bytes::read_within;
+use crate::open_file::OpenFile;
 use crate::whole_file::write_whole;
 use ssim_program::{Content, Store, StoreFault};
 use std::alloc::{AllocError, Global};

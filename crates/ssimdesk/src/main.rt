@@ -2,9 +2,9 @@
 #![tactic(auto)]
 
 mod draft;
+mod file_bytes;
 mod files;
 mod open_file;
-mod file_bytes;
 mod whole_file;
 
 use files::FileStore;

@@ -9,8 +9,8 @@ ghost use Rattle.ssim_schedule.specs.internal.Plan.{IsRefusedAs, pieces_count, p
 
 use crate::export::ExportFault;
 use crate::itinerary::{Itinerary, MOST_RECORDS};
-use crate::timetable::flight_table::{FlightPeriods, FlightTable, place};
 use crate::timetable::copy_on_write::CopyOnWrite;
+use crate::timetable::flight_table::{FlightPeriods, FlightTable, place};
 use ssim_periods::Periods;
 use ssim_values::{Flight, Memory, Period};
 use std::alloc::Global;

@@ -12,8 +12,8 @@ ghost use Rattle.ssim_base.specs.Timetable.{on_day};
 
 use crate::itinerary::Itinerary;
 use crate::leg::PlacedLeg;
-use crate::timetable::flight_table::{FlightTable, place};
 use crate::timetable::copy_on_write::CopyOnWrite;
+use crate::timetable::flight_table::{FlightTable, place};
 use ssim_periods::{Change, Periods};
 use ssim_values::{Day, Flight, Memory, Period};
 use std::alloc::Global;
@@ -193,7 +193,10 @@ fn empty_blocks(alloc: Global) -> Result<Vec<CopyOnWrite<FlightTable>>, Memory>
     Ok(blocks)
 }
 
-fn copies(alloc: Global, blocks: &[CopyOnWrite<FlightTable>]) -> Result<Vec<CopyOnWrite<FlightTable>>, Memory>
+fn copies(
+    alloc: Global,
+    blocks: &[CopyOnWrite<FlightTable>],
+) -> Result<Vec<CopyOnWrite<FlightTable>>, Memory>
     ensures { IfOk result (λ copies. copies.items ≡ blocks.now) }
 {
     let mut copies = Vec::with_capacity(alloc, blocks.len())?;

@@ -13,7 +13,7 @@ ghost use Rattle.ssim_schedule.specs.internal.Blocks.{IsBlock, block_of};
 
 use crate::itinerary::Itinerary;
 use crate::leg::PlacedLeg;
-use crate::timetable::copy_on_write::{Duplicate, CopyOnWrite};
+use crate::timetable::copy_on_write::{CopyOnWrite, Duplicate};
 use ssim_periods::{Change, Periods};
 use ssim_values::{Day, Flight, Memory, Period};
 use std::alloc::Global;
