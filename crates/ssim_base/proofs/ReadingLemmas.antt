@@ -21,7 +21,8 @@ use Rattle.ssim_base.specs.Base.{Ending, Done, Broken, Outcome, at_record, check
 use Rattle.ssim_base.specs.internal.DataSetReader.{IsSoFar, notes_at}
 use Rattle.ssim_base.specs.internal.Acceptance.{HasAccepted, IsRefused, AcceptsNext}
 use Rattle.ssim_base.specs.Reading.{AreBlocks, AreComplete, AreGiven, Begins, Came, HaveCome, FailsAfter, FailsAs, Gives, IsAfterComplete, IsAfterInvalid, IsReadOf, IsRecordAfter, NamesNext, NeverEnds, RefusesWhole, Stops}
-use Rattle.ssim_base.specs.internal.Reading.{ReturnsAs, AreGivenOf, Refuses, is_of_bytes}
+use Rattle.ssim_base.specs.internal.Reading.{ReturnsAs, AreGivenOf, Refuses}
+use Rattle.ssim_base.specs.Reading.{is_of_bytes}
 use Rattle.ssim_base.specs.ReadBack.{EachSpells}
 use Rattle.ssim_base.specs.declared.fault.BaseFault.{BaseFault}
 use Rattle.ssim_base.specs.declared.fault.BaseFault.TheVariants as fault

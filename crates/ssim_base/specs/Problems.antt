@@ -1,6 +1,7 @@
 -- All problems of a data set, not only the first.
 use Rattle.std.specs.Prelude.{◌≡◌, ℕ, ◌+◌, ◌≤◌, ◌==◌, Bool, true, false, not, if◌then◌else◌, List, [], ◌∷◌, ◌++◌, length, slice_index, Option, Some, None, Result, Ok, Err}
 use Rattle.std.specs.List.{list_any}
+use Rattle.ssim_records.specs.Device.{Reader}
 use Rattle.ssim_records.specs.Frames.{Frames, others}
 use Rattle.ssim_records.specs.Record.{Spells, fault_of}
 use Rattle.ssim_records.specs.declared.fault.RecordFault.{RecordFault}
@@ -9,7 +10,7 @@ use Rattle.ssim_records.specs.declared.record.Record.{Record}
 use Rattle.ssim_records.specs.declared.record.Record.TheVariants.{Leg, Segment, Trailer}
 use Rattle.ssim_base.specs.Base.{first_of, is_continued, is_overflow, is_rate, kept, missing, refusal_at, refuse_if}
 use Rattle.ssim_base.specs.declared.fault.BaseFault.{BaseFault}
-use Rattle.ssim_base.specs.Reading.{AreBlocks, IsAfterComplete}
+use Rattle.ssim_base.specs.Reading.{AreBlocks, Came, FailsAs, IsAfterComplete, NeverEnds, is_of_bytes}
 use Rattle.ssim_base.specs.declared.fault.BaseFault.TheVariants.{Read, Refused}
 use Rattle.ssim_base.specs.declared.fault.BaseFault.TheVariants as fault
 use Rattle.ssim_base.specs.declared.fault.BaseRefusal.{BaseRefusal}
@@ -150,6 +151,14 @@ abbrev pub NamesLast : ℕ → Option (List ℕ) → Option (List ℕ) → BaseF
 NamesLast limit all left (fault.Read (ReadFault n)) = IsAfterComplete all left n
 NamesLast limit all left (fault.Read (ReaderNeverEnds n)) = IsAfterLimit limit all n
 NamesLast limit all left _ = Unit {0}
+
+-- Why the problems of a data set are not read, and what the reader has left: the reader failed, more
+-- bytes came than the limit, or memory ran out.
+pub record RefusesProblems (limit : ℕ) (before after : Reader) (fault : BaseFault) : Type 0 where
+  pub is_of_device : is_of_bytes fault ≡ false
+  pub failure : FailsAs before.failures after.failures fault
+  pub names : NamesLast limit before.left after.left fault
+  pub never_ends : NeverEnds limit (Came before after) fault
 
 -- Bytes have one list of problems.
 abbrev pub SameBytesSameProblems : Type 0

@@ -1,5 +1,5 @@
 -- What the bytes of a data set are read as.
-use Rattle.std.specs.Prelude.{◌≡◌, ◌⊎◌, ℕ, ◌+◌, ◌-◌, ◌<◌, ◌≤◌, ◌%◌, ◌^◌, false, IfSome, List, [], ◌∷◌, ◌++◌, length, Option, Some, None, Result, Ok, Err}
+use Rattle.std.specs.Prelude.{◌≡◌, ◌⊎◌, ℕ, ◌+◌, ◌-◌, ◌<◌, ◌≤◌, ◌%◌, ◌^◌, Bool, true, false, IfSome, List, [], ◌∷◌, ◌++◌, length, Option, Some, None, Result, Ok, Err}
 use Rattle.std.specs.List.{All}
 use Rattle.ssim_records.specs.Device.{Reader}
 use Rattle.ssim_records.specs.Frames.{Frames, others}
@@ -105,6 +105,14 @@ abbrev pub Returns : Result BaseRead BaseFault → (Outcome → Type 0) → Type
 Returns (Ok read) P = P (Ok (read.base.records, read.notes.items))
 Returns (Err fault.Memory) P = Unit {0}
 Returns (Err refusal) P = P (Err refusal)
+
+-- whether a fault is of the bytes: neither did memory run out, nor did the reader fail (13), nor
+-- did more bytes come than the limit (14)
+abbrev pub is_of_bytes : BaseFault → Bool
+is_of_bytes fault.Memory = false
+is_of_bytes (fault.Read (ReadFault number)) = false
+is_of_bytes (fault.Read (ReaderNeverEnds number)) = false
+is_of_bytes _ = true
 
 -- the reader's failures are counted: one more if the fault is 13, else none
 abbrev pub FailsAs : ℕ → ℕ → BaseFault → Type 0

@@ -2,10 +2,9 @@
 
 ghost use Rattle.std.specs.Prelude.{◌≡◌, ◌<◌, ◌+◌, ◌-◌, ◌^◌, ◌∷◌, ◌++◌, ◌||◌, [], false, IfErr, IfOk, OnOk};
 ghost use Rattle.ssim_records.specs.declared.fault.RecordFault.{RecordFault};
-ghost use Rattle.ssim_base.specs.Problems.{HasProblems, NamesLast, Standing, begins_as_trailer, missing_in, numbered};
-ghost use Rattle.ssim_base.specs.Reading.{Came, FailsAs, NeverEnds};
-ghost use Rattle.ssim_base.specs.internal.Problems.{Finds, IsNew, Passes, HasStanding, Takes};
-ghost use Rattle.ssim_base.specs.internal.Reading.{is_of_bytes};
+ghost use Rattle.ssim_base.specs.Problems.{HasProblems, RefusesProblems, Standing};
+ghost use Rattle.ssim_base.specs.Problems.{begins_as_trailer, missing_in, numbered};
+ghost use Rattle.ssim_base.specs.internal.Problems.{Finds, HasStanding, IsNew, Passes, Takes};
 
 use crate::data_set::acceptance::{Acceptance, alone_refusal};
 use crate::fault::{BaseFault, BaseRefusal};
@@ -30,15 +29,9 @@ impl Problems {
     /// more are fetched. Only 13, 14 and 90 are refusals.
     pub fn read<R: Source>(alloc: Global, reader: &mut R, limit: u64) -> Result<Problems, BaseFault>
         ensures ok { IfOk result (HasProblems limit (R.state reader.old).left) }
-        ensures err { IfErr result (λ e. is_of_bytes e ≡ false) }
+        ensures err { IfErr result (RefusesProblems limit (R.state reader.old) (R.state reader.new)) }
         ensures no_failure { IfOk result (λ _. (R.state reader.new).failures
             ≡ (R.state reader.old).failures) }
-        ensures failure { IfErr result
-            (λ e. FailsAs (R.state reader.old).failures (R.state reader.new).failures e) }
-        ensures names { IfErr result
-            (NamesLast limit (R.state reader.old).left (R.state reader.new).left) }
-        ensures never_ends { IfErr result
-            (λ e. NeverEnds limit (Came (R.state reader.old) (R.state reader.new)) e) }
     {
         frames_are_one();
         let mut blocks = Records::new(limit);

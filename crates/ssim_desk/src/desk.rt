@@ -4,12 +4,11 @@ ghost use Rattle.std.specs.Prelude.{◌≡◌, ◌⊎◌, ◌++◌, ◌<◌, ◌
 ghost use Rattle.std.specs.Prelude.{length, take, drop, Ok, IfOk, IfErr, OnErr, OnOk};
 ghost use Rattle.std.specs.List.Sorted.{IsStrictlyIncreasing};
 ghost use Rattle.ssim_values.specs.Calendar.{weekday};
-ghost use Rattle.ssim_base.specs.Reading.{Came};
 ghost use Rattle.ssim_schedule.specs.ExportResult.{ReadsBackBase, RefusesBase, WritesBase};
 ghost use Rattle.ssim_schedule.specs.Schedule.{cuts_in};
 ghost use Rattle.ssim_base.specs.Sinks.{Puts};
 ghost use Rattle.ssim_held.specs.File.{CanBeSaved, desk_file};
-ghost use Rattle.ssim_held.specs.Opening.{FailsAs, NeverEnds, Opens, RefusesFile};
+ghost use Rattle.ssim_held.specs.Opening.{Opens, RefusesDesk};
 ghost use Rattle.ssim_held.specs.Entries.{AreEntries, AreRising, IsEntry, map_of, state_of};
 ghost use Rattle.ssim_held.specs.Ordered.{Belongs};
 ghost use Rattle.ssim_desk.specs.Desk.{AreDeskPoints, IsReplayed, WritesDesk, at_rest};

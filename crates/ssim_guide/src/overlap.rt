@@ -44,19 +44,16 @@ fn push_overlap(lines: &mut Vec<u8>, overlap: &Overlap<'_>) -> Result<(), AllocE
 /// The first record before the one with this number that has its flight and leg sequence on a date
 /// of it.
 fn overlap_of<'b>(bytes: &'b [u8], record: &[u8], number: u64) -> Option<Overlap<'b>> {
-    let leg = leg_in(record)?;
+    let record = record_in(record)?;
     let mut rest = bytes;
-    let mut end = None;
+    // The last day of the calendar, up to the carrier record.
+    let mut end = Day::parse(b"31DEC99").ok()?;
     for other in 1..number {
         let found = first_record(rest);
-        match record_in(found) {
-            Some(Record::Carrier(carrier)) => end = Some(validity_end(&carrier)),
-            Some(Record::Leg(earlier)) if is_same_leg(&earlier, &leg) => {
-                if let Some(day) = common_day(&earlier, &leg, end?) {
-                    return Some(Overlap { other, found, day });
-                }
-            }
-            _ => {}
+        let earlier = record_in(found);
+        end = end_after(earlier.as_ref(), end);
+        if let Some(day) = overlap_day(earlier.as_ref(), &record, end) {
+            return Some(Overlap { other, found, day });
         }
         rest = after_record(rest)?;
     }
@@ -68,10 +65,21 @@ fn record_in(bytes: &[u8]) -> Option<Record> {
     read_record(bytes.as_array()?).ok()
 }
 
-/// The flight leg record that 200 bytes are.
-fn leg_in(bytes: &[u8]) -> Option<LegRecord> {
-    match record_in(bytes)? {
-        Record::Leg(leg) => Some(leg),
+/// The last day of the validity after one more record.
+fn end_after(record: Option<&Record>, end: Day) -> Day {
+    match record {
+        Some(Record::Carrier(carrier)) => validity_end(carrier),
+        _ => end,
+    }
+}
+
+/// The first date that two leg records with one flight and leg sequence have in common. An open end
+/// is this day.
+fn overlap_day(one: Option<&Record>, other: &Record, end: Day) -> Option<Day> {
+    match (one, other) {
+        (Some(Record::Leg(one)), Record::Leg(other)) if is_same_leg(one, other) => {
+            common_day(one, other, end)
+        }
         _ => None,
     }
 }

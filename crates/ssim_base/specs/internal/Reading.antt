@@ -1,6 +1,5 @@
 -- How private functions say what was read, and why dates are invalid.
-use Rattle.std.specs.Prelude.{◌≡◌, ℕ, Bool, true, false, List, Option, Some, None, Result, Ok, Err}
-use Rattle.ssim_records.specs.declared.fault.RecordFault.TheVariants.{ReadFault, ReaderNeverEnds}
+use Rattle.std.specs.Prelude.{◌≡◌, ℕ, List, Option, Some, None, Result, Ok, Err}
 use Rattle.ssim_records.specs.declared.record.Record.{Record}
 use Rattle.ssim_base.specs.Base.{Ending, Outcome}
 use Rattle.ssim_base.specs.declared.fault.BaseFault.{BaseFault}
@@ -32,14 +31,6 @@ ReturnsAs seen (Err refusal) P = P (Err refusal)
 abbrev pub Refuses : ℕ → Option (List ℕ) → BaseFault → Type 0
 Refuses limit known fault.Memory = Unit {0}
 Refuses limit known refusal = IsReadOf limit known (Err refusal)
-
--- whether a fault is of the bytes: neither did memory run out, nor did the reader fail (13), nor
--- did more bytes come than the limit (14)
-abbrev pub is_of_bytes : BaseFault → Bool
-is_of_bytes fault.Memory = false
-is_of_bytes (fault.Read (ReadFault number)) = false
-is_of_bytes (fault.Read (ReaderNeverEnds number)) = false
-is_of_bytes _ = true
 
 -- the three records are the header, the carrier record and the trailer of the frame
 abbrev pub AreOfFrame : Frame → Record → Record → Record → Type 0

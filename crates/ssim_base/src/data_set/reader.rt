@@ -6,7 +6,8 @@ ghost use Rattle.ssim_records.specs.Record.{IsRecord, serial_of};
 ghost use Rattle.ssim_records.specs.declared.record.Record.{Record};
 ghost use Rattle.ssim_base.specs.internal.DataSetReader.{HasRead, unread};
 ghost use Rattle.ssim_base.specs.Reading.{Came, IsRecordAfter, RefusesByRecord, RefusesReading};
-ghost use Rattle.ssim_base.specs.internal.Reading.{Refuses, is_of_bytes};
+ghost use Rattle.ssim_base.specs.Reading.{is_of_bytes};
+ghost use Rattle.ssim_base.specs.internal.Reading.{Refuses};
 
 use crate::data_set::acceptance::Acceptance;
 use crate::data_set::record_sink::RecordSink;

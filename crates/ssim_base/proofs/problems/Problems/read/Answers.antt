@@ -95,8 +95,8 @@ returns-in-Err-Short-clause-ok g c =
     problems-cut c.args.limit (g.R.Source.state c.args.reader.now).left (g.R.Source.state c.loop-next.reader).left (g.R.Source.state c.next_block.new.reader).left old new i.blocks found done.problems n i.limit_is i.so_far i.told gives number
     done.ensures.records faults
 
-pub returns-in-Err-clause-names : goal.returns-in-Err-clause-names
-returns-in-Err-clause-names g c =
+pub returns-in-Err-clause-err : goal.returns-in-Err-clause-err
+returns-in-Err-clause-err g c =
     let i = c.loop-next.invariant in
     let old = c.loop-next.blocks in
     let new = c.next_block.new.self in
@@ -116,5 +116,11 @@ returns-in-Err-clause-names g c =
     let few =
     subst (λ (a : BlockAnswer). HoldsFew new.held (without_block a)) answer
     (while-open old.ended i.open' c.next_block.ensures.few_left) in
-    names-last c.args.limit before left after old new i.blocks c.in-Err.fault fetched few i.told
-    gives number
+    record {
+      is_of_device = search rules;
+      failure = search rules;
+      names =
+          names-last c.args.limit before left after old new i.blocks c.in-Err.fault fetched few
+          i.told gives number;
+      never_ends = search rules;
+    }
