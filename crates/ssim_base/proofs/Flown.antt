@@ -6,7 +6,7 @@ use Rattle.std.specs.List.{flat_map, list_any}
 use Rattle.ssim_values.specs.Flight.{FlightNumber}
 use Rattle.ssim_records.specs.declared.record.Record.{Record}
 use Rattle.ssim_base.specs.Timetable.{Days, same_flight, on_day}
-use Rattle.ssim_base.specs.Export.{Frame, same_itinerary, pieces, pieces_records, flight_records, flights_records, flight_count, flight_at, all_flights, sections, unless_refused, export_refusal, chapter7_records}
+use Rattle.ssim_base.specs.Export.{Frame, same_itinerary, pieces, pieces_records, flight_records, flights_records, flight_count, flight_at, all_flights, sections, export_unless_refused, export_refusal, chapter7_records}
 use Rattle.ssim_base.specs.ReadBack as law
 use Rattle.ssim_base.specs.ReadBack.{place_of}
 use Rattle.ssim_base.proofs.ExportLaws.{FlownSuffice}
@@ -116,9 +116,9 @@ flown_suffice frame days fs rise none =
     let a = frame.carrier.airline in
     let is = map place_of fs in
     let none_at : NoOther days 0 flight_count is = λ j from to out. none (flight_at j) (flight-is j to) (same-any 0 fs j rise ∙ out) in
-    ap (λ o. unless_refused o (sections frame (flights_records a days all_flights))) (refusal-of_some a days 2 0 flight_count flight_count is (omega arith) (rising 0 fs rise) none_at)
-    ∙ ap (λ rs. unless_refused (export_refusal a days 2 (map flight_at is)) (sections frame rs)) (records-of_some a days 0 flight_count flight_count is (omega arith) (rising 0 fs rise) none_at)
-    ∙ ap (λ gs. unless_refused (export_refusal a days 2 gs) (sections frame (flights_records a days gs))) (sym (at_places 0 fs rise))
+    ap (λ o. export_unless_refused o (sections frame (flights_records a days all_flights))) (refusal-of_some a days 2 0 flight_count flight_count is (omega arith) (rising 0 fs rise) none_at)
+    ∙ ap (λ rs. export_unless_refused (export_refusal a days 2 (map flight_at is)) (sections frame rs)) (records-of_some a days 0 flight_count flight_count is (omega arith) (rising 0 fs rise) none_at)
+    ∙ ap (λ gs. export_unless_refused (export_refusal a days 2 gs) (sections frame (flights_records a days gs))) (sym (at_places 0 fs rise))
 
 -- ---- flights that are in no map
 

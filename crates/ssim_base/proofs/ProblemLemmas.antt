@@ -10,7 +10,7 @@ use Rattle.ssim_records.specs.Reading as reading
 use Rattle.ssim_records.specs.Reading.{GivesNextBlock, HasNumber, IsAhead, Reading, without_block}
 use Rattle.ssim_records.specs.declared.fault.RecordFault.{RecordFault}
 use Rattle.ssim_records.specs.declared.fault.RecordFault.TheVariants.{Short, BadType, BadColumn, ReadFault, ReaderNeverEnds}
-use Rattle.ssim_base.specs.Problems.{AreItems, AreProblems, After, HasProblems, Item, NamesLast, Standing, after_item, begins_as_trailer, end_problem, missing_in, numbered, problem_in, problems_in, standing_after}
+use Rattle.ssim_base.specs.Problems.{AreItems, AreProblems, After, HasProblems, Item, NamesLast, Standing, after_item, begins_as_trailer, end_problem, missing_in, fault_at, problem_in, problems_in, standing_after}
 use Rattle.ssim_base.specs.Reading.{AreBlocks, HaveCome, NeverEnds}
 use Rattle.ssim_base.specs.internal.Problems.{IsNew, HasStanding, Takes}
 use Rattle.ssim_base.specs.declared.fault.BaseFault.TheVariants.{Read}
@@ -167,7 +167,7 @@ over-none limit all left r before t same none = let came = t.came in omega (arit
 -- the bytes end after a block
 pub problems-end : (limit : ℕ) (told left left' : Option (List ℕ)) (r new : Reading) (before : List (ℕ × List ℕ)) (found : ProblemReader) (p : Problems) → r.limit ≡ limit → (so : AreSoFar found before)
     → ToldBlocks limit told left r before → GivesNextBlock r left new left' (Ok None) → p.records ≡ found.records
-    → p.faults.items ≡ found.faults.items ++ numbered (new.number + 1) (missing_in so.standing found.trailer) → HasProblems limit told p
+    → p.faults.items ≡ found.faults.items ++ fault_at (new.number + 1) (missing_in so.standing found.trailer) → HasProblems limit told p
 problems-end limit None left left' r new before found p same so t given records faults = tt
 problems-end limit (Some all) None left' r new before found p same so t given records faults = absurd t
 problems-end limit (Some all) (Some left) None r new before found p same so t given records faults = absurd given
@@ -179,7 +179,7 @@ problems-end limit (Some all) (Some left) (Some left') r new before found p same
       are-problems all t.blocks [] before found p so
           (subst (λ n. Frames n false all t.blocks []) over (subst (λ rest. AreBlocks limit all t.blocks rest) a.1 t.framed))
           (all-blocks limit all left r new before t a.0) records
-          (subst (λ n. p.faults.items ≡ found.faults.items ++ numbered (n + 1) (missing_in so.standing found.trailer)) number faults),
+          (subst (λ n. p.faults.items ≡ found.faults.items ++ fault_at (n + 1) (missing_in so.standing found.trailer)) number faults),
     )
 
 -- the bytes end within a record

@@ -19,7 +19,7 @@ use Rattle.ssim_records.proofs.FrameLaws.{frames_exist}
 use Rattle.ssim_records.proofs.Framing.{takes_all}
 use Rattle.ssim_base.specs.Base.{Ending, Done, Broken, Outcome, at_record, check_notes, data_set, first_refusal, kept, kept_all, missing, note_if, notes_of, refusal_at, unless_refused}
 use Rattle.ssim_base.specs.internal.DataSetReader.{IsSoFar, notes_at}
-use Rattle.ssim_base.specs.internal.Acceptance.{HasAccepted, IsRefused, AcceptsNext}
+use Rattle.ssim_base.specs.internal.Acceptance.{HasAccepted, IsRecordRefused, AcceptsNext}
 use Rattle.ssim_base.specs.Reading.{AreBlocks, AreComplete, AreGiven, Begins, Came, HaveCome, FailsAfter, FailsAs, Gives, IsAfterComplete, IsAfterInvalid, IsReadOf, IsRecordAfter, NamesNext, NeverEnds, RefusesWhole, Stops}
 use Rattle.ssim_base.specs.internal.Reading.{ReturnsAs, AreGivenOf, Refuses}
 use Rattle.ssim_base.specs.Reading.{is_of_bytes}
@@ -294,7 +294,7 @@ while-open (Some x) e h = absurd cc
 
 -- the refusal of a record, if one more was read
 pub step-refused : (limit : ℕ) (told left left' : Option (List ℕ)) (r new : Reading) (g : DataSetReader) (earlier : List Record) (done : List Numbered) (x : Numbered) (e : BaseFault)
-    → IsSoFar g earlier done → Told limit told left r done → GivesNext r left new left' (Ok (Some x)) → IsRefused x.0 earlier x.1 e → IsRecord x.1 → Refuses limit told e
+    → IsSoFar g earlier done → Told limit told left r done → GivesNext r left new left' (Ok (Some x)) → IsRecordRefused x.0 earlier x.1 e → IsRecord x.1 → Refuses limit told e
 step-refused limit told left left' r new g earlier done x fault.Memory so_far t given is valid = tt
 step-refused limit told left left' r new g earlier done x (Read f) so_far t given is valid = absurd is
 step-refused limit told left left' r new g earlier done x (Refused n refusal) so_far t given is valid =
@@ -324,7 +324,7 @@ ended-beyond limit told left left' start now r new done (ReaderNeverEnds n) same
     came-in limit told left left' start now (limit + 1) r new done (Err (ReaderNeverEnds n)) (sym (over.0 ∙ ap (λ k. k + 1) same)) t given counts
 
 -- a record is never refused as 14
-pub never-refused : (limit : ℕ) (CameFrom : ℕ → Type 0) (n : ℕ) (earlier : List Record) (r : Record) (e : BaseFault) → IsRefused n earlier r e → NeverEnds limit CameFrom e
+pub never-refused : (limit : ℕ) (CameFrom : ℕ → Type 0) (n : ℕ) (earlier : List Record) (r : Record) (e : BaseFault) → IsRecordRefused n earlier r e → NeverEnds limit CameFrom e
 never-refused limit CameFrom n earlier r fault.Memory is = tt
 never-refused limit CameFrom n earlier r (Read f) is = absurd is
 never-refused limit CameFrom n earlier r (Refused m refusal) is = tt
@@ -333,7 +333,7 @@ never-refused limit CameFrom n earlier r (Refused m refusal) is = tt
 
 -- a record that is refused counts no failure
 pub refused-fails : (old new n : ℕ) (earlier : List Record) (r : Record) (e : BaseFault)
-    → IsRefused n earlier r e → new ≡ old → FailsAs old new e
+    → IsRecordRefused n earlier r e → new ≡ old → FailsAs old new e
 refused-fails old new n earlier r fault.Memory is same = same
 refused-fails old new n earlier r (Read f) is same = absurd is
 refused-fails old new n earlier r (Refused m refusal) is same = same
@@ -426,7 +426,7 @@ fails-after limit told left left' r new g earlier done (ReaderNeverEnds n) so t 
     few = tt
 
 -- a record is never refused as 13
-pub never-fails : (all left : Option (List ℕ)) (n : ℕ) (earlier : List Record) (r : Record) (e : BaseFault) → IsRefused n earlier r e → FailsAfter all left e
+pub never-fails : (all left : Option (List ℕ)) (n : ℕ) (earlier : List Record) (r : Record) (e : BaseFault) → IsRecordRefused n earlier r e → FailsAfter all left e
 never-fails all left n earlier r fault.Memory is = tt
 never-fails all left n earlier r (Read f) is = absurd is
 never-fails all left n earlier r (Refused m refusal) is = tt
@@ -583,7 +583,7 @@ rest-other limit told r old new (ReaderNeverEnds n) h = tt
 
 -- a refused record has the number of the records that were counted
 pub after-refused : (number n : ℕ) (earlier : List Record) (r : Record) (e : BaseFault)
-    → IsRefused n earlier r e → n ≡ number → is_of_bytes e ≡ true → IsRecordAfter e (number + 1)
+    → IsRecordRefused n earlier r e → n ≡ number → is_of_bytes e ≡ true → IsRecordAfter e (number + 1)
 after-refused number n earlier r fault.Memory is same of_bytes = absurd cc
 after-refused number n earlier r (Read f) is same of_bytes = absurd is
 after-refused number n earlier r (Refused m refusal) is same of_bytes =

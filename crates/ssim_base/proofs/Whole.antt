@@ -11,7 +11,7 @@ use Rattle.ssim_records.specs.declared.record.Record.{Record}
 use Rattle.ssim_records.specs.declared.record.Record.TheVariants.{Header, Carrier, Leg, Segment, Trailer}
 use Rattle.ssim_base.specs.Timetable.{LegValue, Legs, Days, itinerary, days_of, on_day}
 use Rattle.ssim_base.specs.Base.{kept, kept_all}
-use Rattle.ssim_base.specs.Export.{Frame, Piece, ExportRefusal, Variations, Records, pieces, tail_record, leg_records, pieces_records, flight_records, flights_records, flight_count, flight_at, all_flights, with_serial, numbered, sections, export_refusal, unless_refused, chapter7_records}
+use Rattle.ssim_base.specs.Export.{Frame, Piece, ExportRefusal, Variations, Records, pieces, tail_record, leg_records, pieces_records, flight_records, flights_records, flight_count, flight_at, all_flights, with_serial, numbered, sections, export_refusal, export_unless_refused, chapter7_records}
 use Rattle.ssim_base.specs.ReadBack.{IsTimetable, records_of, base_of, kept_frame, HasFrame, place_of}
 use Rattle.ssim_base.proofs.ExportLaws.{ExportsAgain, ReadsBack, SameExport}
 use Rattle.ssim_base.proofs.Each.{each-map}
@@ -55,7 +55,7 @@ base-is frame body h =
     let second : Record = Carrier (record frame.carrier { serial = 0 }) in
     ap (λ rs. top ∷ second ∷ rs) (kept-body (second ∷ top ∷ []) 3 body (record frame.trailer { check = 2 + length body; serial = 3 + length body }) h)
 
-pub exported : (o : Option ExportRefusal) (s t : List (List Record)) → unless_refused o s ≡ Ok t → s ≡ t
+pub exported : (o : Option ExportRefusal) (s t : List (List Record)) → export_unless_refused o s ≡ Ok t → s ≡ t
 exported None s t h = cc
 exported (Some refusal) s t h = cc
 
@@ -129,8 +129,8 @@ refusal-same a days others count low (suc k) h =
 pub same_export : SameExport
 same_export frame days others h =
     let same : (j : ℕ) → j < 0 + flight_count → days (flight_at j) ≡ others (flight_at j) = λ j l. h (flight_at j) (flight-is j (omega arith)) in
-    ap (λ o. unless_refused o (sections frame (flights_records frame.carrier.airline days all_flights))) (refusal-same frame.carrier.airline days others 2 0 flight_count same)
-    ∙ ap (λ rs. unless_refused (export_refusal frame.carrier.airline others 2 all_flights) (sections frame rs)) (records-same frame.carrier.airline days others 0 flight_count same)
+    ap (λ o. export_unless_refused o (sections frame (flights_records frame.carrier.airline days all_flights))) (refusal-same frame.carrier.airline days others 2 0 flight_count same)
+    ∙ ap (λ rs. export_unless_refused (export_refusal frame.carrier.airline others 2 all_flights) (sections frame rs)) (records-same frame.carrier.airline days others 0 flight_count same)
 
 pub exports_again : ExportsAgain
 exports_again frame days s is h =

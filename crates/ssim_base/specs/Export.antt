@@ -150,17 +150,17 @@ export_refusal airline days count (flight ∷ flights) =
     else export_refusal airline days after flights)
 
 -- the refusal, or else the records
-abbrev pub unless_refused : Option ExportRefusal → List (List Record)
+abbrev pub export_unless_refused : Option ExportRefusal → List (List Record)
     → Result (List (List Record)) ExportRefusal
-unless_refused (Some refusal) records = Err refusal
-unless_refused None records = Ok records
+export_unless_refused (Some refusal) records = Err refusal
+export_unless_refused None records = Ok records
 
 -- the export of some flights' itineraries by day
 abbrev pub export_of : List FlightNumber → Frame → (FlightNumber → Days)
     → Result (List (List Record)) ExportRefusal
 export_of flights frame days =
     let airline = frame.carrier.airline in
-    unless_refused (export_refusal airline days 2 flights)
+    export_unless_refused (export_refusal airline days 2 flights)
     (sections frame (flights_records airline days flights))
 
 -- the sections of the whole export, or its refusal

@@ -63,13 +63,13 @@ refusal_in (After earlier) r = refusal_at earlier r
 refusal_in Alone r = alone_refusal r
 
 -- a refusal with the number of its record
-abbrev pub numbered : ℕ → Option BaseRefusal → List BaseFault
-numbered number (Some refusal) = Refused number refusal ∷ []
-numbered number None = []
+abbrev pub fault_at : ℕ → Option BaseRefusal → List BaseFault
+fault_at number (Some refusal) = Refused number refusal ∷ []
+fault_at number None = []
 
 -- the problem of a numbered item, if it has one
 abbrev pub problem_in : Standing → ℕ × Item → List BaseFault
-problem_in standing (number, Ok r) = numbered number (refusal_in standing r)
+problem_in standing (number, Ok r) = fault_at number (refusal_in standing r)
 problem_in standing (number, Err fault) = Read fault ∷ []
 
 -- whether the header or the carrier record comes next
@@ -114,7 +114,7 @@ missing_in (After (last ∷ second ∷ more)) trailer = if trailer then None els
 
 -- the problem at the end: bytes too few for a record (10), or else what is missing
 abbrev pub end_problem : Standing → Bool → ℕ → List ℕ → List BaseFault
-end_problem standing trailer number [] = numbered number (missing_in standing trailer)
+end_problem standing trailer number [] = fault_at number (missing_in standing trailer)
 end_problem standing trailer number (byte ∷ rest) = Read (Short number) ∷ []
 
 -- ---- the whole

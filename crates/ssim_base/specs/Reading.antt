@@ -199,8 +199,8 @@ IsAfterInvalid limit known number =
 
 -- The first invalid record of the bytes is one of these blocks, and the record after it has this
 -- number; or each of these blocks is allowed, and the record after them has this number.
-abbrev pub IsNext : ℕ → List ℕ → List (List ℕ) → ℕ → Type 0
-IsNext limit bytes blocks number =
+abbrev pub IsNextRecord : ℕ → List ℕ → List (List ℕ) → ℕ → Type 0
+IsNextRecord limit bytes blocks number =
     (IsAfterInvalid limit (Some bytes) number × (number ≤ length blocks + 1))
     ⊎ (AreAllowed blocks × (number ≡ length blocks + 1))
 
@@ -211,7 +211,7 @@ IsNext limit bytes blocks number =
 -- its bytes.
 abbrev pub NamesNext : ℕ → Option (List ℕ) → Option (List ℕ) → BaseFault → Type 0
 NamesNext limit all left (fault.Read (ReadFault n)) = IfSome all (λ bytes.
-    (blocks : List (List ℕ)) × AreComplete bytes left blocks × IsNext limit bytes blocks n)
+    (blocks : List (List ℕ)) × AreComplete bytes left blocks × IsNextRecord limit bytes blocks n)
 NamesNext limit all left (fault.Read (ReaderNeverEnds n)) =
     (read : BaseFault) × IsReadOf limit all (Err read)
     × ((read ≡ fault.Read (ReaderNeverEnds n)) ⊎ IsRecordAfter read n)

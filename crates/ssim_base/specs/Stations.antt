@@ -57,9 +57,9 @@ NamesLine lines Memory = Unit {0}
 NamesLine lines (Stations n) = IsFirstOther lines n
 
 -- the result of reading a table: these rows, unless memory is refused
-abbrev pub Gives : List Row → Result (List Row) StationFault → Type 0
-Gives rows (Ok answer) = answer ≡ rows
-Gives rows (Err fault) = fault ≡ Memory
+abbrev pub GivesRows : List Row → Result (List Row) StationFault → Type 0
+GivesRows rows (Ok answer) = answer ≡ rows
+GivesRows rows (Err fault) = fault ≡ Memory
 
 -- ---- the row that counts
 

@@ -3,7 +3,7 @@
 ghost use Rattle.std.specs.Prelude.{◌≡◌, ◌<◌, ◌+◌, ◌-◌, ◌^◌, ◌∷◌, ◌++◌, ◌||◌, [], false, IfErr, IfOk, OnOk};
 ghost use Rattle.ssim_records.specs.declared.fault.RecordFault.{RecordFault};
 ghost use Rattle.ssim_base.specs.Problems.{HasProblems, RefusesProblems, Standing};
-ghost use Rattle.ssim_base.specs.Problems.{begins_as_trailer, missing_in, numbered};
+ghost use Rattle.ssim_base.specs.Problems.{begins_as_trailer, missing_in, fault_at};
 ghost use Rattle.ssim_base.specs.internal.Problems.{Finds, HasStanding, IsNew, Passes, Takes};
 
 use crate::data_set::acceptance::{Acceptance, alone_refusal};
@@ -119,7 +119,7 @@ impl ProblemReader {
         ensures faults { IfOk result (λ problems. (standing : Standing)
             → HasStanding self.checks standing
             → problems.faults.items ≡ self.faults.items
-            ++ numbered number (missing_in standing self.trailer)) }
+            ++ fault_at number (missing_in standing self.trailer)) }
     {
         let ProblemReader {
             checks,

@@ -3,7 +3,7 @@
 ghost use Rattle.std.specs.Prelude.{◌≡◌, ◌≤◌, ◌++◌, List, [], IfOk, IfErr, IfSome, IfNone, IsTrue, ◌↔◌, Ok, Some};
 ghost use Rattle.ssim_text.specs.Left.{lines_left, numbered};
 ghost use Rattle.ssim_text.specs.Lines.{day_in};
-ghost use Rattle.ssim_base.specs.Stations.{Gives, NamesLine, Row, SpellsTable, covers, variation_at, variation_in};
+ghost use Rattle.ssim_base.specs.Stations.{GivesRows, NamesLine, Row, SpellsTable, covers, variation_at, variation_in};
 ghost use Rattle.ssim_base.specs.internal.StationRows.{StopsAs, row_of, rows_of};
 
 use crate::place::Place;
@@ -234,7 +234,7 @@ impl Stations {
     /// lines, from 1.
     pub fn read(alloc: Global, text: &[u8]) -> Result<Stations, StationFault>
         ensures ok { IfOk result (λ rows. SpellsTable rows text.now) }
-        ensures only { (rows : List Row) → SpellsTable rows text.now → Gives rows result }
+        ensures only { (rows : List Row) → SpellsTable rows text.now → GivesRows rows result }
         ensures err { IfErr result (λ fault. NamesLine (lines_left text.now) fault) }
     {
         match read_rows(alloc, text) {

@@ -8,14 +8,14 @@ use Rattle.ssim_held.proofs.Entries.{not_held}
 use Rattle.ssim_held.proofs.Unions.{IsHeldIn, union_entries, union_first, union_held, union_is}
 use Rattle.ssim_desk.specs.Desk.{IsReplayed}
 use Rattle.ssim_desk.specs.Steps.{IsUnion}
-use Rattle.ssim_desk.specs.internal.Changes.{Brings, IsReplaced}
+use Rattle.ssim_desk.specs.internal.Changes.{MergeBrings, IsReplaced}
 use Rattle.ssim_desk.proofs.Changes.{replayed}
 
 module _ (old other : DeskSeen) (base : old.base ≡ other.base) (agree : Agree (map_of old.held) (map_of other.held)) (mine : AreEntries old.base.records old.held) (theirs : AreEntries other.base.records other.held) where
   pub united_none : All (IsHeldIn old.held) other.held → IsUnion (state_of old) (state_of other) (map_of old.held)
   united_none h = record { base = base; agree = agree; all = union_held old.held other.held mine.rising theirs.rising h }
 
-  pub brings : (place at : ℕ) → IsFirstNew old.held other.held place at → (rest : List Entry) → IsMerged (drop at old.held) (drop place other.held) rest → Brings old other at rest
+  pub brings : (place at : ℕ) → IsFirstNew old.held other.held place at → (rest : List Entry) → IsMerged (drop at old.held) (drop place other.held) rest → MergeBrings old other at rest
   brings place at first rest m =
       let head = union_first old.held other.held place at mine.rising theirs.rising first rest m in
       let kept = subst (λ (b : BaseSeen). let records = b.records in AreEntries records other.held) (sym base) theirs in
@@ -29,5 +29,5 @@ module _ (old other : DeskSeen) (base : old.base ≡ other.base) (agree : Agree 
         is_new = not_held old.held at first.first.reference mine.rising first.gap;
       }
 
-pub replayed_by : (old other new : DeskSeen) (at : ℕ) (rest : List Entry) → Brings old other at rest → IsReplaced old at rest new → IsReplayed old new
+pub replayed_by : (old other new : DeskSeen) (at : ℕ) (rest : List Entry) → MergeBrings old other at rest → IsReplaced old at rest new → IsReplayed old new
 replayed_by old other new at rest b r = replayed old new at b.first b.others b.within (subst (λ (es : List Entry). IsReplaced old at es new) b.begins r) b.is_new

@@ -8,7 +8,7 @@ ghost use Rattle.ssim_schedule.specs.ExportResult.{ReadsBackBase, RefusesBase, W
 ghost use Rattle.ssim_schedule.specs.Schedule.{cuts_in};
 ghost use Rattle.ssim_base.specs.Sinks.{Puts};
 ghost use Rattle.ssim_held.specs.File.{CanBeSaved, desk_file};
-ghost use Rattle.ssim_held.specs.Opening.{Opens, RefusesDesk};
+ghost use Rattle.ssim_held.specs.Opening.{Opens, RefusesOpening};
 ghost use Rattle.ssim_held.specs.Entries.{AreEntries, AreRising, IsEntry, map_of, state_of};
 ghost use Rattle.ssim_held.specs.Ordered.{Belongs};
 ghost use Rattle.ssim_desk.specs.Desk.{AreDeskPoints, IsReplayed, WritesDesk, at_rest};
@@ -88,7 +88,7 @@ impl Desk {
         ensures ok { IfOk result
             (λ desk. Opens limit (R.state reader.old).left desk.seen.base desk.seen.held) }
         ensures applied { IfOk result (λ desk. desk.seen.applied ≡ length desk.seen.held) }
-        ensures err { IfErr result (RefusesDesk limit (R.state reader.old) (R.state reader.new)) }
+        ensures err { IfErr result (RefusesOpening limit (R.state reader.old) (R.state reader.new)) }
         ensures no_failure { IfOk result (λ _. (R.state reader.new).failures
             ≡ (R.state reader.old).failures) }
     {

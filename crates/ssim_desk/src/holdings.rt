@@ -14,7 +14,7 @@ ghost use Rattle.ssim_text.specs.Message.{MessageValue};
 ghost use Rattle.ssim_text.specs.declared.reference.Reference.{Reference};
 ghost use Rattle.ssim_held.specs.Held.{Agree, Says};
 ghost use Rattle.ssim_held.specs.Entries.{AreEntries, AreRising, IsEntry, map_of, state_of};
-ghost use Rattle.ssim_held.specs.Opening.{Opens, RefusesDesk};
+ghost use Rattle.ssim_held.specs.Opening.{Opens, RefusesOpening};
 ghost use Rattle.ssim_held.specs.Ordered.{Belongs};
 ghost use Rattle.ssim_base.specs.Timetable.{Days, itinerary};
 ghost use Rattle.ssim_schedule.specs.Schedule.{days_in};
@@ -97,7 +97,7 @@ impl Holdings {
         ensures ok { IfOk result
             (λ holdings. Opens limit (R.state reader.old).left holdings.base holdings.held) }
         ensures applied { IfOk result (λ holdings. holdings.applied ≡ 0) }
-        ensures err { IfErr result (RefusesDesk limit (R.state reader.old) (R.state reader.new)) }
+        ensures err { IfErr result (RefusesOpening limit (R.state reader.old) (R.state reader.new)) }
         ensures no_failure { IfOk result (λ _. (R.state reader.new).failures
             ≡ (R.state reader.old).failures) }
     {

@@ -47,7 +47,7 @@ RefusesFile limit left (desk_fault.File offset) = OpensNone limit left
 RefusesFile _ _ _ = ⊥
 
 -- why no desk is opened by a reader, and what the reader has left
-pub record RefusesDesk (limit : ℕ) (before after : Reader) (fault : DeskFault) : Type 0 where
+pub record RefusesOpening (limit : ℕ) (before after : Reader) (fault : DeskFault) : Type 0 where
   pub file : RefusesFile limit before.left fault
   pub failure : FailsAs before.failures after.failures fault
   pub never_ends : NeverEnds limit (Came before after) fault

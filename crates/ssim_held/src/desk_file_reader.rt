@@ -8,7 +8,7 @@ ghost use Rattle.ssim_base.specs.BaseSeen.{BaseSeen, base_with};
 ghost use Rattle.ssim_base.specs.SavedBase.{StopsSaved};
 ghost use Rattle.ssim_base.specs.Stations.{Row};
 ghost use Rattle.ssim_held.specs.File.{IsDeskFile, IsRow, end_line, rows_part, texts_part};
-ghost use Rattle.ssim_held.specs.Opening.{Opens, RefusesDesk};
+ghost use Rattle.ssim_held.specs.Opening.{Opens, RefusesOpening};
 ghost use Rattle.ssim_held.specs.internal.DeskFileReader.{AreHeld, IfInvalid};
 ghost use Rattle.ssim_held.specs.Entries.{Entry};
 
@@ -134,7 +134,7 @@ fn read_file<R: Source>(
 pub fn read_desk<R: Source>(alloc: Global, reader: &mut R, limit: u64) -> Result<Opened, DeskFault>
     ensures ok { IfOk result (λ desk. Opens limit (R.state reader.old).left
         (base_with desk.data_set desk.stations) desk.held.items) }
-    ensures err { IfErr result (RefusesDesk limit (R.state reader.old) (R.state reader.new)) }
+    ensures err { IfErr result (RefusesOpening limit (R.state reader.old) (R.state reader.new)) }
     ensures no_failure { IfOk result (λ _. (R.state reader.new).failures
         ≡ (R.state reader.old).failures) }
 {

@@ -12,7 +12,7 @@ use Rattle.ssim_records.specs.declared.record.Record.{Record}
 use Rattle.ssim_records.specs.declared.record.Record.TheVariants.{Header, Carrier, Leg, Segment, Trailer}
 use Rattle.ssim_records.proofs.AnyRecord.{first_byte, kind_is, kind_of, no_fault, one_record}
 use Rattle.ssim_base.specs.Base.{Ending, Done, Broken, Outcome, at_record, first_refusal, is_trailer, kept, missing, or_else, refusal_at, refuse_if, unless_refused}
-use Rattle.ssim_base.specs.Problems.{After, AreItems, AreProblems, HasProblems, Item, Standing, after_invalid, after_record, begins_as_trailer, end_problem, missing_in, numbered, problems_in, standing_after}
+use Rattle.ssim_base.specs.Problems.{After, AreItems, AreProblems, HasProblems, Item, Standing, after_invalid, after_record, begins_as_trailer, end_problem, missing_in, fault_at, problems_in, standing_after}
 use Rattle.ssim_base.specs.Reading.{Begins, Gives, IsFaulty, IsReadAs, IsWholeOf, Stops}
 use Rattle.ssim_base.specs.declared.fault.BaseFault.{BaseFault}
 use Rattle.ssim_base.specs.declared.fault.BaseFault.TheVariants.{Read}
@@ -80,7 +80,7 @@ or_assoc : (x y z : Bool) → ((x || y) || z) ≡ (x || (y || z))
 or_assoc true y z = refl
 or_assoc false y z = refl
 
-one_left : (n : ℕ) (refusal : Option BaseRefusal) → Matches (at_record n refusal None) (numbered n refusal)
+one_left : (n : ℕ) (refusal : Option BaseRefusal) → Matches (at_record n refusal None) (fault_at n refusal)
 one_left n (Some refusal) = λ of. ([], refl)
 one_left n None = refl
 
@@ -122,9 +122,9 @@ ends : (left : List (ℕ × List ℕ)) (items : List (ℕ × Item)) (ending : En
     → AreItems left items → Stops count rest 0 left ending → Tells earlier seen
     → Matches (first_refusal ending earlier []) (problems_in (After earlier) items ++ end_problem (standing_after (After earlier) items) (seen || list_any begins_as_trailer left) (count + 1) rest)
 ends [] [] (Done number) earlier seen count [] are (none, empty, zero, at) tells =
-    subst (λ (flag : Bool). Matches (at_record number (missing earlier) None) (numbered (count + 1) (missing_in (After earlier) flag))) (sym (or_false seen))
-    (subst (λ (n : ℕ). Matches (at_record number (missing earlier) None) (numbered n (missing_in (After earlier) seen))) at
-    (subst (λ (o : Option BaseRefusal). Matches (at_record number (missing earlier) None) (numbered number o)) (missing_is earlier seen tells) (one_left number (missing earlier))))
+    subst (λ (flag : Bool). Matches (at_record number (missing earlier) None) (fault_at (count + 1) (missing_in (After earlier) flag))) (sym (or_false seen))
+    (subst (λ (n : ℕ). Matches (at_record number (missing earlier) None) (fault_at n (missing_in (After earlier) seen))) at
+    (subst (λ (o : Option BaseRefusal). Matches (at_record number (missing earlier) None) (fault_at number o)) (missing_is earlier seen tells) (one_left number (missing earlier))))
 ends [] (i ∷ items) ending earlier seen count rest are stops tells = absurd are
 ends [] [] (Done number) earlier seen count (x ∷ rest) are (none, empty, zero, at) tells = absurd cc
 ends (b ∷ left) items (Done number) earlier seen count rest are (none, empty, zero, at) tells = absurd cc
@@ -147,7 +147,7 @@ all_problems standing items end' = problems_in standing items ++ end' (standing_
 -- a record is refused, and this is the first problem; or it is one of the valid records
 record_matches : (k : ℕ) (r : Record) (earlier : List Record) (items : List (ℕ × Item)) (found : Option BaseFault) (end' : Standing → List BaseFault) (o : Option BaseRefusal)
     → (o ≡ None → Matches found (all_problems (After (kept earlier r ∷ earlier)) items end'))
-    → Matches (at_record k o found) ((numbered k o ++ problems_in (after_record earlier r o) items) ++ end' (standing_after (after_record earlier r o) items))
+    → Matches (at_record k o found) ((fault_at k o ++ problems_in (after_record earlier r o) items) ++ end' (standing_after (after_record earlier r o) items))
 record_matches k r earlier items found end' (Some refusal) next = λ of. (all_problems (after_invalid earlier) items end', refl)
 record_matches k r earlier items found end' None next = next refl
 

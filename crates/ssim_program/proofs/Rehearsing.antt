@@ -13,7 +13,7 @@ use Rattle.ssim_desk.specs.declared.steps.Step.{Step}
 use Rattle.ssim_desk.specs.declared.steps.Step.TheVariants.{Take, Merge}
 use Rattle.ssim_desk.proofs.Moments.{Moment, at_step}
 use Rattle.ssim_program.specs.Files.{Files}
-use Rattle.ssim_program.specs.rehearse.Rehearsal.{AreExports, AreLoaded, AreStepLines, IsLoaded, IsOutcome, IsStepLine, Outcome, RefusesStep, RefusesTexts, desk_line, desk_lines}
+use Rattle.ssim_program.specs.rehearse.Rehearsal.{AreExports, AreLoaded, AreStepLines, IsLoaded, IsOutcome, IsStepLine, Outcome, RefusesStep, RefusesStepTexts, desk_line, desk_lines}
 use Rattle.ssim_program.specs.internal.Rehearse.{HasLine, HasMergeLine, HasTakeLine, HaveLines, desk_of}
 use Rattle.ssim_program.specs.rehearse.Script.{IsFirstOther, Written, step_in}
 use Rattle.ssim_program.specs.declared.refusal.Refusal.{Refusal}
@@ -174,7 +174,7 @@ first_other f g count xs i x ys lt at so_far none = record {
 pub refuses_next : {X : Type 0} (f : X → Written) (files : Option Files) (xs : List X) (i : ℕ)
     (x : X) (ss : List Step) (refusal : Refusal) → i < length xs → x ≡ get_or xs i x
     → AreLoaded files (map f (take i xs)) ss → RefusesStep files (f x) refusal
-    → RefusesTexts files (map f xs) refusal
+    → RefusesStepTexts files (map f xs) refusal
 refuses_next f files xs i x ss refusal lt at are is =
     inr (map f (take i xs), f x, map f (drop (i + 1) xs), map_split f xs i x lt at, (ss, are), is)
 

@@ -11,7 +11,7 @@ use Rattle.ssim_desk.specs.declared.steps.Step.{Step}
 use Rattle.ssim_desk.specs.declared.steps.Step.TheVariants.{Take, Merge}
 use Rattle.ssim_desk.proofs.Moments.{at_end}
 use Rattle.ssim_program.specs.Files.{Files}
-use Rattle.ssim_program.specs.rehearse.Rehearsal.{AreLoaded, IsLoaded, RefusesStep, RefusesTexts, fresh}
+use Rattle.ssim_program.specs.rehearse.Rehearsal.{AreLoaded, IsLoaded, RefusesStep, RefusesStepTexts, fresh}
 use Rattle.ssim_program.specs.rehearse.Script.{RefusesScript, Written, Takes, Merges, count_in}
 use Rattle.ssim_program.specs.internal.Rehearse.{HaveLines, IsOtherLine, IsStepOf}
 use Rattle.ssim_program.specs.declared.refusal.Refusal.{Refusal}
@@ -141,7 +141,7 @@ loaded_at f before files xs i d ss new s lt same are is pushed =
 pub refuses_at : {X : Type 0} (f : X → Written) (before files : Option Files) (xs : List X) (i : ℕ)
     (d : X) (ss : List Step) (refusal : Refusal) → i < length xs → before ≡ files
     → AreLoaded files (map f (take i xs)) ss → RefusesStep before (f (get_or xs i d)) refusal
-    → RefusesTexts files (map f xs) refusal
+    → RefusesStepTexts files (map f xs) refusal
 refuses_at f before files xs i d ss refusal lt same are is =
     refuses_next f files xs i (get_or xs i d) ss refusal lt (any_default xs i d (get_or xs i d) lt)
     are (subst (λ (all : Option Files). RefusesStep all (f (get_or xs i d)) refusal) same is)

@@ -133,15 +133,15 @@ is_refused (Accepted file n answer reference) = false
 is_refused _ = true
 
 -- the last line, without its end: how many were taken, repeated and refused
-abbrev pub counts_text : ℕ → ℕ → ℕ → List ℕ
-counts_text taken repeated refused =
+abbrev pub total_text : ℕ → ℕ → ℕ → List ℕ
+total_text taken repeated refused =
     codes "taken " ++ decimal taken ++ codes " repeated " ++ decimal repeated
     ++ codes " refused " ++ decimal refused
 
 -- the lines of receipts, in order, and the line that counts them
 abbrev pub receipt_lines : List Receipt → List ℕ
 receipt_lines receipts = flat_map (λ r. line (receipt_text r)) receipts
-    ++ line (counts_text (count_by is_taken receipts) (count_by is_repeated receipts)
+    ++ line (total_text (count_by is_taken receipts) (count_by is_repeated receipts)
     (count_by is_refused receipts))
 
 -- ---- what is kept

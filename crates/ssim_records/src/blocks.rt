@@ -5,7 +5,7 @@ ghost use Rattle.std.specs.Io.KnownBytes.{IsAtEnd};
 ghost use Rattle.ssim_records.specs.declared.blocks.Stop.TheVariants.{ReaderNeverEnds};
 ghost use Rattle.ssim_records.specs.Frames.{is_fill};
 ghost use Rattle.ssim_records.specs.Blocks.{CameOn, CountsOn, Fetches, StaysLeft};
-ghost use Rattle.ssim_records.specs.internal.Blocks.{behind_front, with_front, FailsAtRest, GivesBlock, GivesOther, FailsOnce, HoldsFew, block_count, refusal_of};
+ghost use Rattle.ssim_records.specs.internal.Blocks.{behind_front, with_front, FailsAtRest, GivesBlock, GivesOther, FailsOnce, LeavesFew, block_count, refusal_of};
 
 use crate::device::Source;
 use crate::fault::RecordFault;
@@ -65,7 +65,7 @@ fn next_block<R: Source>(
     ensures fetched { Fetches after_block 0 window.old (R.state reader.old).left
         (block_count (with_front window.new result)) (behind_front result window.new)
         (R.state reader.new).left }
-    ensures few_left { HoldsFew window.new (with_front window.new result) }
+    ensures few_left { LeavesFew window.new (with_front window.new result) }
     ensures fault { FailsOnce (R.state reader.old).failures (R.state reader.new).failures
         (with_front window.new result) }
     ensures count { CountsOn (R.state reader.old) (R.state reader.new) came.old came.new }
@@ -127,7 +127,7 @@ pub fn next_other<R: Source>(
         → (limit < came.new) × (length window.new ≤ 200) }
     ensures fetched { Fetches (nat_lt 0 number.old) number.old window.old (R.state reader.old).left
         number.new (behind_front result window.new) (R.state reader.new).left }
-    ensures few_left { HoldsFew window.new (with_front window.new result) }
+    ensures few_left { LeavesFew window.new (with_front window.new result) }
     ensures fault { FailsOnce (R.state reader.old).failures (R.state reader.new).failures
         (with_front window.new result) }
     ensures count { CountsOn (R.state reader.old) (R.state reader.new) came.old came.new }

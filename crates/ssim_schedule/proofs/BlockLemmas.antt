@@ -6,7 +6,7 @@ use Rattle.std.proofs.lemmas.Bool.{cases_eq, cases_lt}
 use Rattle.std.proofs.lemmas.Bool.Decides.{nat_tests}
 use Rattle.std.proofs.lemmas.List.{get_or_append_left, get_or-append_right, length-append}
 use Rattle.ssim_values.specs.Flight.{FlightNumber}
-use Rattle.ssim_schedule.specs.internal.Blocks.{AreBlocks, AreOf, IsBlock, block_of, joined}
+use Rattle.ssim_schedule.specs.internal.Blocks.{AreBlocks, AreOf, IsBlock, block_of, all_entries}
 use Rattle.ssim_base.specs.ReadBack.{place_of}
 use Rattle.ssim_schedule.specs.internal.Table.{AreRising, IsAt, IsGapFor, Table, found, key_at, no_entry}
 use Rattle.ssim_schedule.specs.declared.timetable.flight_table.FlightPeriods.{FlightPeriods}
@@ -53,26 +53,26 @@ module _ {X : Type 0} (field : FlightPeriods → X) where
           absurd (apart (ap (λ n. n / 1024) (sym same) ∙ are.0))
       by false e rest = rest
 
-  found-before : (other : X) (k : ℕ) (blocks : List Table) (q : FlightNumber) → AreBlocks k blocks → block_of q < k → found field other (joined blocks) q ≡ other
+  found-before : (other : X) (k : ℕ) (blocks : List Table) (q : FlightNumber) → AreBlocks k blocks → block_of q < k → found field other (all_entries blocks) q ≡ other
   found-before other k [] q are less = refl
   found-before other k (b ∷ blocks) q are less =
-      found-joined other b (joined blocks) q
+      found-joined other b (all_entries blocks) q
       ∙ ap (λ (x : X). found field x b q) (found-before other (k + 1) blocks q are.1 (omega (arith, less)))
       ∙ found-elsewhere other k b q are.0.its (λ same. omega (arith, less, same))
 
   found-block : (other : X) (k : ℕ) (blocks : List Table) (j : ℕ) (q : FlightNumber) → AreBlocks k blocks → block_of q ≡ k + j
-      → found field other (joined blocks) q ≡ found field other (get_or blocks j []) q
+      → found field other (all_entries blocks) q ≡ found field other (get_or blocks j []) q
   found-block other k [] j q are its = refl
   found-block other k (b ∷ blocks) zero q are its =
-      found-joined other b (joined blocks) q
+      found-joined other b (all_entries blocks) q
       ∙ ap (λ (x : X). found field x b q) (found-before other (k + 1) blocks q are.1 (omega (arith, its)))
   found-block other k (b ∷ blocks) (suc j) q are its =
-      found-joined other b (joined blocks) q
-      ∙ found-elsewhere (found field other (joined blocks) q) k b q are.0.its (λ same. omega (arith, its, same))
+      found-joined other b (all_entries blocks) q
+      ∙ found-elsewhere (found field other (all_entries blocks) q) k b q are.0.its (λ same. omega (arith, its, same))
       ∙ found-block other (k + 1) blocks j q are.1 (omega (arith, its))
 
   -- what a flight has is in its block
-  pub found_block : (other : X) (blocks : List Table) (j : ℕ) (q : FlightNumber) → AreBlocks 0 blocks → j ≡ block_of q → found field other (get_or blocks j []) q ≡ found field other (joined blocks) q
+  pub found_block : (other : X) (blocks : List Table) (j : ℕ) (q : FlightNumber) → AreBlocks 0 blocks → j ≡ block_of q → found field other (get_or blocks j []) q ≡ found field other (all_entries blocks) q
   found_block other blocks j q are its = sym (found-block other 0 blocks j q are (omega (arith, its)))
 
 -- ---- a block in place of another
@@ -97,23 +97,23 @@ block_at blocks j are within = subst (λ n. IsBlock n (get_or blocks j [])) (ome
 -- what holds of each flight's entry in the old block and in the new one, and of entries of other
 -- blocks, which stay, holds of all
 module _ {X : Type 0} (field : FlightPeriods → X) (other : X) (P : FlightNumber → X → X → Type 0) where
-  pub each_flight : (blocks : List Table) (j : ℕ) (held new now : Table) → AreBlocks 0 blocks → j < length blocks → held ≡ get_or blocks j [] → joined blocks ≡ now → IsBlock j new
+  pub each_flight : (blocks : List Table) (j : ℕ) (held new now : Table) → AreBlocks 0 blocks → j < length blocks → held ≡ get_or blocks j [] → all_entries blocks ≡ now → IsBlock j new
       → ((g : FlightNumber) → P g (found field other held g) (found field other new g)) → ((g : FlightNumber) → block_of g ≢ j → (x : X) → P g x x)
-      → (g : FlightNumber) → P g (found field other now g) (found field other (joined (set blocks j new)) g)
+      → (g : FlightNumber) → P g (found field other now g) (found field other (all_entries (set blocks j new)) g)
   each_flight blocks j held new now are within is_held is_now its each apart g = by (cases_eq (block_of g) j)
     where
       after : AreBlocks 0 (set blocks j new)
       after = blocks_set blocks j new are its
 
-      by : (block_of g ≡ j) ⊎ (block_of g ≢ j) → P g (found field other now g) (found field other (joined (set blocks j new)) g)
+      by : (block_of g ≡ j) ⊎ (block_of g ≢ j) → P g (found field other now g) (found field other (all_entries (set blocks j new)) g)
       by (inl here) =
-          let new_is : found field other new g ≡ found field other (joined (set blocks j new)) g =
+          let new_is : found field other new g ≡ found field other (all_entries (set blocks j new)) g =
           ap (λ (t : Table). found field other t g) (sym (get_or-set_same blocks j new [] within)) ∙ found_block field other (set blocks j new) j g after (sym here) in
           let held_is : found field other held g ≡ found field other now g =
           ap (λ (t : Table). found field other t g) is_held ∙ found_block field other blocks j g are (sym here) ∙ ap (λ (t : Table). found field other t g) is_now in
-          subst (λ (x : X). P g x (found field other (joined (set blocks j new)) g)) held_is (subst (λ (y : X). P g (found field other held g) y) new_is (each g))
+          subst (λ (x : X). P g x (found field other (all_entries (set blocks j new)) g)) held_is (subst (λ (y : X). P g (found field other held g) y) new_is (each g))
       by (inr elsewhere) =
-          let same : found field other now g ≡ found field other (joined (set blocks j new)) g =
+          let same : found field other now g ≡ found field other (all_entries (set blocks j new)) g =
           ap (λ (t : Table). found field other t g) (sym is_now) ∙ sym (found_block field other blocks (block_of g) g are refl)
           ∙ ap (λ (t : Table). found field other t g) (sym (get_or-set_other blocks j (block_of g) new [] elsewhere)) ∙ found_block field other (set blocks j new) (block_of g) g after refl in
           subst (λ (y : X). P g (found field other now g) y) same (apart g elsewhere (found field other now g))
@@ -136,50 +136,50 @@ key-front a b i within = ap (λ (f : FlightPeriods). place_of f.flight) (get_or_
 key-back : (a b : Table) (i : ℕ) → length a ≤ i → key_at (a ++ b) i ≡ key_at b (i - length a)
 key-back a b i le = ap (λ (f : FlightPeriods). place_of f.flight) (get_or-append_right a b (length a) i no_entry refl le)
 
-from-key : (k : ℕ) (blocks : List Table) → AreBlocks k blocks → (i : ℕ) → i < length (joined blocks) → k ≤ key_at (joined blocks) i / 1024
+from-key : (k : ℕ) (blocks : List Table) → AreBlocks k blocks → (i : ℕ) → i < length (all_entries blocks) → k ≤ key_at (all_entries blocks) i / 1024
 from-key k [] are i within = absurd (omega (arith, within))
 from-key k (b ∷ blocks) are i within = by (from-key (k + 1) blocks are.1) (cases_lt i (length b))
   where
-    by : ((n : ℕ) → n < length (joined blocks) → k + 1 ≤ key_at (joined blocks) n / 1024) → (i < length b) ⊎ (length b ≤ i) → k ≤ key_at (b ++ joined blocks) i / 1024
+    by : ((n : ℕ) → n < length (all_entries blocks) → k + 1 ≤ key_at (all_entries blocks) n / 1024) → (i < length b) ⊎ (length b ≤ i) → k ≤ key_at (b ++ all_entries blocks) i / 1024
     by rest (inl front) =
         let here = of_key k b i are.0.its front in
-        subst (λ n. k ≤ n / 1024) (sym (key-front b (joined blocks) i front)) (omega (arith, here))
+        subst (λ n. k ≤ n / 1024) (sym (key-front b (all_entries blocks) i front)) (omega (arith, here))
     by rest (inr back) =
-        let long = length-append b (joined blocks) in
+        let long = length-append b (all_entries blocks) in
         let later = rest (i - length b) (omega (arith, within, back, long)) in
-        subst (λ n. k ≤ n / 1024) (sym (key-back b (joined blocks) i back)) (omega (arith, later))
+        subst (λ n. k ≤ n / 1024) (sym (key-back b (all_entries blocks) i back)) (omega (arith, later))
 
-rising-joined : (k : ℕ) (blocks : List Table) → AreBlocks k blocks → AreRising (joined blocks)
+rising-joined : (k : ℕ) (blocks : List Table) → AreBlocks k blocks → AreRising (all_entries blocks)
 rising-joined k [] are i j less within = absurd (omega (arith, within))
 rising-joined k (b ∷ blocks) are i j less within = by (rising-joined (k + 1) blocks are.1) (cases_lt i (length b)) (cases_lt j (length b))
   where
-    long : length (b ++ joined blocks) ≡ length b + length (joined blocks)
-    long = length-append b (joined blocks)
+    long : length (b ++ all_entries blocks) ≡ length b + length (all_entries blocks)
+    long = length-append b (all_entries blocks)
 
-    by : AreRising (joined blocks) → (i < length b) ⊎ (length b ≤ i) → (j < length b) ⊎ (length b ≤ j) → key_at (b ++ joined blocks) i < key_at (b ++ joined blocks) j
+    by : AreRising (all_entries blocks) → (i < length b) ⊎ (length b ≤ i) → (j < length b) ⊎ (length b ≤ j) → key_at (b ++ all_entries blocks) i < key_at (b ++ all_entries blocks) j
     by rest x (inl j_front) =
-        let i_is = key-front b (joined blocks) i (omega (arith, less, j_front)) in
-        let j_is = key-front b (joined blocks) j j_front in
+        let i_is = key-front b (all_entries blocks) i (omega (arith, less, j_front)) in
+        let j_is = key-front b (all_entries blocks) j j_front in
         let rise = are.0.rising i j less j_front in
         omega (arith, i_is, j_is, rise)
     by rest (inl i_front) (inr j_back) =
-        let i_is = key-front b (joined blocks) i i_front in
-        let j_is = key-back b (joined blocks) j j_back in
+        let i_is = key-front b (all_entries blocks) i i_front in
+        let j_is = key-back b (all_entries blocks) j j_back in
         let i_block = of_key k b i are.0.its i_front in
         let j_block = from-key (k + 1) blocks are.1 (j - length b) (omega (arith, within, j_back, long)) in
         omega (arith, i_is, j_is, i_block, j_block)
     by rest (inr i_back) (inr j_back) =
-        let i_is = key-back b (joined blocks) i i_back in
-        let j_is = key-back b (joined blocks) j j_back in
+        let i_is = key-back b (all_entries blocks) i i_back in
+        let j_is = key-back b (all_entries blocks) j j_back in
         let rise = rest (i - length b) (j - length b) (omega (arith, less, i_back, j_back)) (omega (arith, within, j_back, long)) in
         omega (arith, i_is, j_is, rise)
 
-pub rising_joined : (blocks : List Table) → AreBlocks 0 blocks → AreRising (joined blocks)
+pub rising_joined : (blocks : List Table) → AreBlocks 0 blocks → AreRising (all_entries blocks)
 rising_joined blocks are = rising-joined 0 blocks are
 
 -- ---- no entries
 
-pub joined_empty : (n : ℕ) → joined (replicate n []) ≡ []
+pub joined_empty : (n : ℕ) → all_entries (replicate n []) ≡ []
 joined_empty zero = refl
 joined_empty (suc n) = joined_empty n
 

@@ -11,8 +11,8 @@ use Rattle.ssim_records.specs.Device.{Writer}
 use Rattle.ssim_records.specs.declared.record.Record.{Record}
 use Rattle.ssim_base.specs.Timetable.{Days, same_flight}
 use Rattle.ssim_base.specs.Export as refusal
-use Rattle.ssim_base.specs.Export.{ExportRefusal, Frame, flight_at, Piece, pieces, pieces_records, flight_records, flights_records, export_refusal, export_of, chapter7, chapter7_records, sections, unless_refused, result_map, export_bytes}
-use Rattle.ssim_schedule.specs.internal.Blocks.{joined}
+use Rattle.ssim_base.specs.Export.{ExportRefusal, Frame, flight_at, Piece, pieces, pieces_records, flight_records, flights_records, export_refusal, export_of, chapter7, chapter7_records, sections, export_unless_refused, result_map, export_bytes}
+use Rattle.ssim_schedule.specs.internal.Blocks.{all_entries}
 use Rattle.ssim_schedule.specs.FlightPieces.{Divided}
 use Rattle.ssim_schedule.specs.internal.Plan.{IsRefusedAs, pieces_count, plan_bytes, plan_count, plan_of, plan_records, plan_refusal}
 use Rattle.ssim_schedule.specs.ExportResult.{Refuses}
@@ -46,16 +46,16 @@ planned_left left rest f plan new all ps is its push before =
     ∙ ap (λ (xs : Table). plan ++ plan_of xs) (sym is) ∙ before
 
 -- a block is planned, of those that are left
-pub planned_block : (left rest : List Table) (b : Table) (plan new all : List Divided) → left ≡ b ∷ rest → new ≡ plan ++ plan_of b → plan ++ plan_of (joined left) ≡ all → new ++ plan_of (joined rest) ≡ all
+pub planned_block : (left rest : List Table) (b : Table) (plan new all : List Divided) → left ≡ b ∷ rest → new ≡ plan ++ plan_of b → plan ++ plan_of (all_entries left) ≡ all → new ++ plan_of (all_entries rest) ≡ all
 planned_block left rest b plan new all is added before =
-    ap (λ (xs : List Divided). xs ++ plan_of (joined rest)) added ∙ append_assoc plan (plan_of b) (plan_of (joined rest))
-    ∙ ap (λ (xs : List Divided). plan ++ xs) (sym (plan-append b (joined rest)) ∙ ap (λ (ts : List Table). plan_of (joined ts)) (sym is)) ∙ before
+    ap (λ (xs : List Divided). xs ++ plan_of (all_entries rest)) added ∙ append_assoc plan (plan_of b) (plan_of (all_entries rest))
+    ∙ ap (λ (xs : List Divided). plan ++ xs) (sym (plan-append b (all_entries rest)) ∙ ap (λ (ts : List Table). plan_of (all_entries ts)) (sym is)) ∙ before
 
 -- the flights of the current block exist, and those of the blocks after it
-pub block_exists : (G : Type 0) (left rest : List Table) (b : Table) → left ≡ b ∷ rest → All (λ f. IsFlight f.flight) b → (All (λ f. IsFlight f.flight) (joined left) → G)
-    → All (λ f. IsFlight f.flight) (joined rest) → G
+pub block_exists : (G : Type 0) (left rest : List Table) (b : Table) → left ≡ b ∷ rest → All (λ f. IsFlight f.flight) b → (All (λ f. IsFlight f.flight) (all_entries left) → G)
+    → All (λ f. IsFlight f.flight) (all_entries rest) → G
 block_exists G left rest b is here all others =
-    all (subst (λ (ts : List Table). All (λ f. IsFlight f.flight) (joined ts)) (sym is) (All-append (λ (f : FlightPeriods). IsFlight f.flight) b (joined rest) here others))
+    all (subst (λ (ts : List Table). All (λ f. IsFlight f.flight) (all_entries ts)) (sym is) (All-append (λ (f : FlightPeriods). IsFlight f.flight) b (all_entries rest) here others))
 
 abbrev pub Exists : FlightPeriods → Type 0
 Exists f = IsFlight f.flight
@@ -159,7 +159,7 @@ no_other table each g is out =
     ap pieces (absent table g is each out) ∙ unflown (each_day (λ n. [])) (λ n l. let len = length-each_day (λ n. []) in at-each_day (λ n. []) n (omega arith))
 
 abbrev Planned_export : Frame → Table → Result (List ℕ) ExportRefusal
-Planned_export frame table = result_map export_bytes (unless_refused (plan_refusal 2 (plan_of table)) (sections frame (plan_records frame.carrier.airline (plan_of table))))
+Planned_export frame table = result_map export_bytes (export_unless_refused (plan_refusal 2 (plan_of table)) (sections frame (plan_records frame.carrier.airline (plan_of table))))
 
 exported : (frame : Frame) (table : Table) → AreRising table → All Exists table → chapter7 frame (table_days table) ≡ Planned_export frame table
 exported frame table rising exist =
@@ -167,8 +167,8 @@ exported frame table rising exist =
     let each = recursion_from_All Exists table exist in
     let days = its_days table rising in
     ap (λ r. result_map export_bytes r) (flown_suffice frame (table_days table) (flights_in table) (rises 0 table rising each (λ some. omega arith)) (no_other table each))
-    ∙ ap (λ o. result_map export_bytes (unless_refused o (sections frame (flights_records a (table_days table) (flights_in table))))) (refusal-same a (table_days table) 2 table days)
-    ∙ ap (λ rs. result_map export_bytes (unless_refused (plan_refusal 2 (plan_of table)) (sections frame rs))) (records-same a (table_days table) table days)
+    ∙ ap (λ o. result_map export_bytes (export_unless_refused o (sections frame (flights_records a (table_days table) (flights_in table))))) (refusal-same a (table_days table) 2 table days)
+    ∙ ap (λ rs. result_map export_bytes (export_unless_refused (plan_refusal 2 (plan_of table)) (sections frame rs))) (records-same a (table_days table) table days)
 
 -- the export, if none of the flights is refused
 pub export_is : (frame : Frame) (table : Table) (plan : List Divided) → AreRising table → All Exists table → plan ≡ plan_of table → plan_refusal 2 plan ≡ None
@@ -176,16 +176,16 @@ pub export_is : (frame : Frame) (table : Table) (plan : List Divided) → AreRis
 unfolding plan_bytes
 export_is frame table plan rising exist is none =
     exported frame table rising exist
-    ∙ ap (λ (ps : List Divided). result_map export_bytes (unless_refused (plan_refusal 2 ps) (sections frame (plan_records frame.carrier.airline ps)))) (sym is)
-    ∙ ap (λ o. result_map export_bytes (unless_refused o (sections frame (plan_records frame.carrier.airline plan)))) none
+    ∙ ap (λ (ps : List Divided). result_map export_bytes (export_unless_refused (plan_refusal 2 ps) (sections frame (plan_records frame.carrier.airline ps)))) (sym is)
+    ∙ ap (λ o. result_map export_bytes (export_unless_refused o (sections frame (plan_records frame.carrier.airline plan)))) none
 
 -- the refusal of the export, if a flight is refused
 pub refusal_is : (frame : Frame) (table : Table) (plan : List Divided) (r : ExportRefusal) → AreRising table → All Exists table → plan ≡ plan_of table → plan_refusal 2 plan ≡ Some r
     → chapter7 frame (table_days table) ≡ Err r
 refusal_is frame table plan r rising exist is some =
     exported frame table rising exist
-    ∙ ap (λ (ps : List Divided). result_map export_bytes (unless_refused (plan_refusal 2 ps) (sections frame (plan_records frame.carrier.airline ps)))) (sym is)
-    ∙ ap (λ o. result_map export_bytes (unless_refused o (sections frame (plan_records frame.carrier.airline plan)))) some
+    ∙ ap (λ (ps : List Divided). result_map export_bytes (export_unless_refused (plan_refusal 2 ps) (sections frame (plan_records frame.carrier.airline ps)))) (sym is)
+    ∙ ap (λ o. result_map export_bytes (export_unless_refused o (sections frame (plan_records frame.carrier.airline plan)))) some
 
 -- what was measured is what is returned
 pub refuses : {W : Type 0} (state : W → Writer) (export : Result (List ℕ) ExportRefusal) (out : W)

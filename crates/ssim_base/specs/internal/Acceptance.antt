@@ -73,10 +73,10 @@ Accepts old new r closed =
     (earlier : List Record) → HasAccepted old earlier → AcceptsNext new earlier r closed
 
 -- the refusal is the record's own, or memory ran out
-abbrev pub IsRefused : ℕ → List Record → Record → BaseFault → Type 0
-IsRefused number earlier r fault.Memory = Unit {0}
-IsRefused number earlier r (fault.Read f) = ⊥
-IsRefused number earlier r (fault.Refused n refusal) =
+abbrev pub IsRecordRefused : ℕ → List Record → Record → BaseFault → Type 0
+IsRecordRefused number earlier r fault.Memory = Unit {0}
+IsRecordRefused number earlier r (fault.Read f) = ⊥
+IsRecordRefused number earlier r (fault.Refused n refusal) =
     (n ≡ number) × (refusal_at earlier r ≡ Some refusal)
 
 -- the refusal is the record's own, and the state still has the earlier records; or memory ran out

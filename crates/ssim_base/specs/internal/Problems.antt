@@ -2,7 +2,7 @@
 use Rattle.std.specs.Prelude.{◌≡◌, ℕ, true, false, List, [], ◌∷◌, ◌++◌, Option, Some, None, Ok}
 use Rattle.ssim_records.specs.declared.record.Record.{Record}
 use Rattle.ssim_base.specs.internal.Acceptance.{HasAccepted}
-use Rattle.ssim_base.specs.Problems.{Alone, After, Item, Says, Standing, after_invalid, after_item, numbered, problem_in, refusal_in}
+use Rattle.ssim_base.specs.Problems.{Alone, After, Item, Says, Standing, after_invalid, after_item, fault_at, problem_in, refusal_in}
 use Rattle.ssim_base.specs.declared.fault.BaseFault.{BaseFault}
 use Rattle.ssim_base.specs.declared.problems.Checks as declared
 use Rattle.ssim_base.specs.declared.problems.ProblemReader.{ProblemReader}
@@ -22,7 +22,7 @@ abbrev pub Finds : declared.Checks → declared.Checks → ℕ → Record → Op
 Finds old new number one problem =
     (standing : Standing) → HasStanding old standing
     → HasStanding new (after_item standing (Ok one))
-    × (listed problem ≡ numbered number (refusal_in standing one))
+    × (listed problem ≡ fault_at number (refusal_in standing one))
 
 -- the standing after an invalid record
 abbrev pub after_any_invalid : Standing → Standing

@@ -7,7 +7,7 @@ ghost use Rattle.ssim_base.specs.Base.{end_of, is_overflow, is_rate, missing, re
 ghost use Rattle.ssim_base.specs.BaseSeen.{AreFlights};
 ghost use Rattle.ssim_base.specs.Problems.{alone_refusal, is_at_heading};
 ghost use Rattle.ssim_base.specs.internal.Acceptance.{Accepts, AcceptsLeg, HasAccepted};
-ghost use Rattle.ssim_base.specs.internal.Acceptance.{IsExpectedAfter, IsLeft, IsRefused};
+ghost use Rattle.ssim_base.specs.internal.Acceptance.{IsExpectedAfter, IsLeft, IsRecordRefused};
 ghost use Rattle.ssim_base.specs.internal.Acceptance.{Stays, is_next_leg};
 ghost use Rattle.ssim_base.specs.declared.data_set.acceptance.Expected.TheVariants as expected;
 
@@ -64,7 +64,7 @@ impl Acceptance {
     pub(crate) fn put(&mut self, number: u64, one: &mut Record) -> Result<(), BaseFault>
         ensures accepts { OnOk result (Accepts self.old self.new one.old one.new) }
         ensures err { IfErr result (λ e. (earlier : List Record) → HasAccepted self.old earlier
-            → IsRefused number earlier one.old e) }
+            → IsRecordRefused number earlier one.old e) }
         ensures stays { IfErr result (Stays (is_next_leg self.old.expected one.old) self.old
             self.new) }
     {
@@ -87,7 +87,7 @@ impl Acceptance {
         requires { self.old.expected ≡ expected.Legs heading }
         ensures accepts { OnOk result (Accepts self.old self.new one.old one.new) }
         ensures err { IfErr result (λ e. (earlier : List Record) → HasAccepted self.old earlier
-            → IsRefused number earlier one.old e) }
+            → IsRecordRefused number earlier one.old e) }
         ensures stays { IfErr result (Stays (is_next_leg self.old.expected one.old) self.old
             self.new) }
     {
@@ -172,7 +172,7 @@ impl Acceptance {
         requires { self.old.expected ≡ expected.Header }
         ensures accepts { OnOk result (Accepts self.old self.new one.old one.new) }
         ensures err { IfErr result (λ e. (earlier : List Record) → HasAccepted self.old earlier
-            → IsRefused number earlier one.old e) }
+            → IsRecordRefused number earlier one.old e) }
         ensures stays { IfErr result (Stays false self.old self.new) }
     {
         match one {
@@ -189,7 +189,7 @@ impl Acceptance {
         requires { self.old.expected ≡ expected.Carrier }
         ensures accepts { OnOk result (Accepts self.old self.new one.old one.new) }
         ensures err { IfErr result (λ e. (earlier : List Record) → HasAccepted self.old earlier
-            → IsRefused number earlier one.old e) }
+            → IsRecordRefused number earlier one.old e) }
         ensures stays { IfErr result (Stays false self.old self.new) }
     {
         match one {
@@ -218,7 +218,7 @@ impl Acceptance {
         ensures accepts { OnOk result (Accepts self.old self.new (Record.Leg leg.old)
             (Record.Leg leg.new)) }
         ensures err { IfErr result (λ e. (earlier : List Record) → HasAccepted self.old earlier
-            → IsRefused number earlier (Record.Leg leg.old) e) }
+            → IsRecordRefused number earlier (Record.Leg leg.old) e) }
     {
         let period = leg_period(number, heading, leg)?;
         if self.legs.add(leg.name(), &period)? {
@@ -239,7 +239,7 @@ impl Acceptance {
         ensures accepts { OnOk result (Accepts self.now self.now (Record.Segment segment.old)
             (Record.Segment segment.new)) }
         ensures err { IfErr result (λ e. (earlier : List Record) → HasAccepted self.now earlier
-            → IsRefused number earlier (Record.Segment segment.old) e) }
+            → IsRecordRefused number earlier (Record.Segment segment.old) e) }
     {
         if !same_airline(segment.name().airline(), heading.airline) {
             return Err(BaseFault::Refused(number, BaseRefusal::OtherAirline));
@@ -264,7 +264,7 @@ impl Acceptance {
         ensures accepts { OnOk result
             (Accepts self.old self.new (Record.Trailer trailer.old) (Record.Trailer trailer.new)) }
         ensures err { IfErr result (λ e. (earlier : List Record) → HasAccepted self.old earlier
-            → IsRefused number earlier (Record.Trailer trailer.old) e) }
+            → IsRecordRefused number earlier (Record.Trailer trailer.old) e) }
         ensures stays { IfErr result (Stays false self.old self.new) }
     {
         if !same_airline(trailer.airline(), heading.airline) {
@@ -286,7 +286,7 @@ fn leg_period(number: u64, heading: CarrierTerms, leg: &LegRecord) -> Result<Per
     ensures ok { IfOk result (AcceptsLeg heading leg.now) }
     ensures err { IfErr result (λ e. (earlier : List Record)
         → IsExpectedAfter (expected.Legs heading) earlier
-        → IsRefused number earlier (Record.Leg leg.now) e) }
+        → IsRecordRefused number earlier (Record.Leg leg.now) e) }
 {
     if !same_airline(leg.airline(), heading.airline) {
         return Err(BaseFault::Refused(number, BaseRefusal::OtherAirline));

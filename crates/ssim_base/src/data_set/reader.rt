@@ -27,7 +27,7 @@ pub(crate) struct DataSetReader {
 }
 
 impl DataSetReader {
-    ghost use Rattle.ssim_base.specs.internal.Acceptance.{Accepts, HasAccepted, IsRefused};
+    ghost use Rattle.ssim_base.specs.internal.Acceptance.{Accepts, HasAccepted, IsRecordRefused};
     ghost use Rattle.ssim_base.specs.internal.DataSetReader.{notes_at};
 
     /// No record.
@@ -55,7 +55,7 @@ impl DataSetReader {
             ≡ self.old.notes.items ++ notes_at number self.old.previous one.old) }
         ensures previous { OnOk result (self.new.previous ≡ serial_of one.old) }
         ensures err { IfErr result (λ e. (earlier : List Record) → HasAccepted self.old.kept earlier
-            → IsRefused number earlier one.old e) }
+            → IsRecordRefused number earlier one.old e) }
         ensures is_record { IsRecord one.old }
     {
         // `put` changes the record, so its serial is read before.

@@ -33,7 +33,7 @@ IsOffer desk held text (New at e) =
 -- ---- another desk
 
 -- what a merge brings: the messages from a position on, the first of which is new
-pub record Brings (mine theirs : DeskSeen) (at : ℕ) (rest : List Entry) : Type 0 where
+pub record MergeBrings (mine theirs : DeskSeen) (at : ℕ) (rest : List Entry) : Type 0 where
   pub within : at ≤ length mine.held
   pub entries : AreEntries mine.base.records (take at mine.held ++ rest)
   pub union : IsUnion (state_of mine) (state_of theirs) (map_of (take at mine.held ++ rest))
@@ -45,7 +45,7 @@ pub record Brings (mine theirs : DeskSeen) (at : ℕ) (rest : List Entry) : Type
 -- what a merge changes: nothing, as each message of the other is held; or it brings messages
 abbrev pub IsChange : {A : Type 0} → DeskSeen → DeskSeen → Option (ℕ × Vec Entry A) → Type 0
 IsChange mine theirs None = IsUnion (state_of mine) (state_of theirs) (map_of mine.held)
-IsChange mine theirs (Some change) = Brings mine theirs change.0 change.1.items
+IsChange mine theirs (Some change) = MergeBrings mine theirs change.0 change.1.items
 
 -- ---- the schedules of a desk: that after every 32 messages, the latest one, and what each message found
 

@@ -37,8 +37,8 @@ abbrev pub on_days : ℕ → ℕ → List Bool → DayRange
 on_days first last days = record { first = first; last = last; days = days }
 
 -- a list of days with this value on those of a period
-abbrev pub with_value : DayRange → ℕ → List ℕ → List ℕ
-with_value period v = changed_on (holds period) (λ _. v) 0
+abbrev pub days_with : DayRange → ℕ → List ℕ → List ℕ
+days_with period v = changed_on (holds period) (λ _. v) 0
 
 -- a list of 40 days without a value
 abbrev pub no_values : List ℕ
@@ -46,15 +46,15 @@ no_values = replicate 40 0
 
 -- 7 on each day from day 3 to day 36, then 8 on the Mondays from day 9 to day 23
 abbrev pub season : List ℕ
-season = with_value (on_days 9 23 mondays) 8 (with_value (on_days 3 36 daily) 7 no_values)
+season = days_with (on_days 9 23 mondays) 8 (days_with (on_days 3 36 daily) 7 no_values)
 
 -- 7 on each day from day 1 to day 30, then 8 on three of the Tuesdays
 abbrev pub june : List ℕ
-june = with_value (on_days 10 24 tuesdays) 8 (with_value (on_days 1 30 daily) 7 no_values)
+june = days_with (on_days 10 24 tuesdays) 8 (days_with (on_days 1 30 daily) 7 no_values)
 
 -- 7 from day 2 to day 11, and from day 12 to day 30
 abbrev pub divided : List ℕ
-divided = with_value (on_days 12 30 daily) 7 (with_value (on_days 2 11 daily) 7 no_values)
+divided = days_with (on_days 12 30 daily) 7 (days_with (on_days 2 11 daily) 7 no_values)
 
 -- two days are missing, less than a week
 abbrev pub with_gap : ℕ → Bool
@@ -79,7 +79,7 @@ pub record WorkedPieces : Type 0 where
   -- two neighbouring periods with one value are one piece
   pub joined : pieces_of nat_eq 0 divided ≡ (on_days 2 30 daily, 7) ∷ []
   -- a period that holds no day changes none
-  pub no_day : with_value (on_days 3 3 mondays) 8 season ≡ season
+  pub no_day : days_with (on_days 3 3 mondays) 8 season ≡ season
   -- a set that ends with the calendar, no day, and one day
   pub last_days : cover (λ n. nat_le 30 n && nat_lt n 40) 40 ≡ on_days 30 39 daily ∷ []
   pub no_days : cover (λ n. false) 40 ≡ []

@@ -18,8 +18,8 @@ SumsFile files name summary =
     (left : Option (List ℕ)) × IsOpened files name left × IsSummary file_limit left summary
 
 -- a refusal with the name of a file
-abbrev pub IsNamed : Text → Option Refusal → Type 0
-IsNamed name found = (refusal : Refusal) × (found ≡ Some refusal) × IsOfFile name refusal
+abbrev pub NamesFile : Text → Option Refusal → Type 0
+NamesFile name found = (refusal : Refusal) × (found ≡ Some refusal) × IsOfFile name refusal
 
 -- the refusal of a file that was not read to its end (13), or has more bytes than the limit (14),
 -- or for which memory ran out; none if the fault is of the bytes
@@ -28,6 +28,6 @@ IsUnread name base.Memory found = found ≡ Some refused.Memory
 IsUnread name (base.Read (record_fault.Short n)) found = found ≡ None
 IsUnread name (base.Read (record_fault.BadType n)) found = found ≡ None
 IsUnread name (base.Read (record_fault.BadColumn n column)) found = found ≡ None
-IsUnread name (base.Read (record_fault.ReadFault n)) found = IsNamed name found
-IsUnread name (base.Read (record_fault.ReaderNeverEnds n)) found = IsNamed name found
+IsUnread name (base.Read (record_fault.ReadFault n)) found = NamesFile name found
+IsUnread name (base.Read (record_fault.ReaderNeverEnds n)) found = NamesFile name found
 IsUnread name (base.Refused n why) found = found ≡ None

@@ -221,8 +221,8 @@ RefusesStep files (Takes desk name) refusal = RefusesLoad files name refusal
 RefusesStep files (Merges into from) refusal = ⊥
 
 -- the text of one of these steps is not loaded, or memory ran out
-abbrev pub RefusesTexts : Option Files → List Written → Refusal → Type 0
-RefusesTexts files script refusal =
+abbrev pub RefusesStepTexts : Option Files → List Written → Refusal → Type 0
+RefusesStepTexts files script refusal =
     (refusal ≡ refused.Memory)
     ⊎ ((before : List Written) × (step : Written) × (after : List Written)
     × (script ≡ before ++ step ∷ after)
@@ -233,7 +233,7 @@ abbrev pub RefusesSteps : Option Files → Text → Refusal → Type 0
 RefusesSteps files name refusal =
     RefusesLoad files name refusal
     ⊎ ((bytes : List ℕ) × HasFile files name bytes × RefusesScript bytes refusal)
-    ⊎ ((script : Script) × ReadsScript files name script × RefusesTexts files script.steps refusal)
+    ⊎ ((script : Script) × ReadsScript files name script × RefusesStepTexts files script.steps refusal)
 
 -- Why there are no lines: memory ran out; or no base is read; or the steps are refused.
 abbrev pub RefusesLines : Option Files → Text → Text → Text → Refusal → Type 0

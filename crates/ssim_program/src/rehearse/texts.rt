@@ -3,7 +3,7 @@
 ghost use Rattle.std.specs.Prelude.{◌≡◌, ◌<◌, ◌≤◌, All, IfErr, IfOk, map};
 ghost use Rattle.ssim_desk.specs.Steps.{IsInRange};
 ghost use Rattle.ssim_program.specs.rehearse.Rehearsal.{AreLoaded, HasSteps, IsLoaded, RefusesStep};
-ghost use Rattle.ssim_program.specs.rehearse.Rehearsal.{RefusesSteps, RefusesTexts};
+ghost use Rattle.ssim_program.specs.rehearse.Rehearsal.{RefusesSteps, RefusesStepTexts};
 ghost use Rattle.ssim_program.specs.internal.Rehearse.{as_written, IsStepOf};
 
 use crate::data_set::load_file;
@@ -37,7 +37,7 @@ fn load_texts<S: Store>(
 ) -> Result<Vec<Step>, Refusal>
     ensures ok { IfOk result
         (λ steps. AreLoaded (S.files store.old) (map as_written written.now) steps.items) }
-    ensures err { IfErr result (RefusesTexts (S.files store.old) (map as_written written.now)) }
+    ensures err { IfErr result (RefusesStepTexts (S.files store.old) (map as_written written.now)) }
     ensures same { S.files store.new ≡ S.files store.old }
     ensures counted { S.failures store.new ≡ S.failures store.old }
 {

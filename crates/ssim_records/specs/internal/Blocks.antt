@@ -55,9 +55,9 @@ block_count (Ok (Some block)) = 1
 block_count _ = 0
 
 -- a reader that failed left too few bytes for a block
-abbrev pub HoldsFew : List ℕ → Result (Option (List ℕ)) Stop → Type 0
-HoldsFew held (Err ReadFault) = length held < 200
-HoldsFew held _ = Unit {0}
+abbrev pub LeavesFew : List ℕ → Result (Option (List ℕ)) Stop → Type 0
+LeavesFew held (Err ReadFault) = length held < 200
+LeavesFew held _ = Unit {0}
 
 -- The result for the blocks and the rest ahead: the next block that is not fill, with its number;
 -- or the end; or the fault at the end. A failure of the reader leaves only fill counted.

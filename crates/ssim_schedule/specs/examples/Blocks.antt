@@ -1,7 +1,7 @@
 -- Small examples of the blocks of a schedule, checked by computation.
 use Rattle.std.specs.Prelude.{◌≡◌, ℕ, [], ◌∷◌, refl}
 use Rattle.ssim_values.specs.Flight.{FlightNumber}
-use Rattle.ssim_schedule.specs.internal.Blocks.{AreOf, block_of, joined}
+use Rattle.ssim_schedule.specs.internal.Blocks.{AreOf, block_of, all_entries}
 use Rattle.ssim_schedule.specs.declared.timetable.flight_table.FlightPeriods.{FlightPeriods}
 
 abbrev numbered_flight : ℕ → ℕ → FlightNumber
@@ -17,7 +17,7 @@ last_block = refl
 abbrev entry : ℕ → FlightPeriods
 entry number = record { flight = numbered_flight number 32; periods = record { days = []; cuts = [] } }
 
-three_blocks : joined ((entry 1 ∷ entry 2 ∷ []) ∷ [] ∷ (entry 544 ∷ []) ∷ []) ≡ entry 1 ∷ entry 2 ∷ entry 544 ∷ []
+three_blocks : all_entries ((entry 1 ∷ entry 2 ∷ []) ∷ [] ∷ (entry 544 ∷ []) ∷ []) ≡ entry 1 ∷ entry 2 ∷ entry 544 ∷ []
 three_blocks = refl
 
 own_flights : AreOf 0 (entry 1 ∷ entry 2 ∷ [])

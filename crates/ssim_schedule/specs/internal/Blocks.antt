@@ -11,9 +11,9 @@ abbrev pub block_of : FlightNumber → ℕ
 block_of flight = place_of flight / 1024
 
 -- the entries of all blocks, in order
-abbrev pub joined : List Table → Table
-joined [] = []
-joined (b ∷ blocks) = b ++ joined blocks
+abbrev pub all_entries : List Table → Table
+all_entries [] = []
+all_entries (b ∷ blocks) = b ++ all_entries blocks
 
 -- the entries are of flights of block k
 abbrev pub AreOf : ℕ → Table → Type 0

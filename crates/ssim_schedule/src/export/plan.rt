@@ -4,7 +4,7 @@ ghost use Rattle.std.specs.Prelude.{◌≡◌, ◌≤◌, ◌<◌, ◌+◌, ◌+
 ghost use Rattle.std.specs.List.{All};
 ghost use Rattle.ssim_values.specs.Flight.{IsFlight};
 ghost use Rattle.ssim_base.specs.Export.{pieces};
-ghost use Rattle.ssim_schedule.specs.internal.Blocks.{joined};
+ghost use Rattle.ssim_schedule.specs.internal.Blocks.{all_entries};
 ghost use Rattle.ssim_schedule.specs.internal.Plan.{IsRefusedAs, pieces_count, plan_of, plan_refusal};
 
 use crate::export::ExportFault;
@@ -64,8 +64,8 @@ pub(crate) fn divide(
     alloc: Global,
     blocks: Vec<CopyOnWrite<FlightTable>>,
 ) -> Result<Vec<FlightPieces>, Memory>
-    ensures plan { IfOk result (λ plan. plan.items ≡ plan_of (joined blocks.items)) }
-    ensures flights { OnOk result (All (λ f. IsFlight f.flight) (joined blocks.items)) }
+    ensures plan { IfOk result (λ plan. plan.items ≡ plan_of (all_entries blocks.items)) }
+    ensures flights { OnOk result (All (λ f. IsFlight f.flight) (all_entries blocks.items)) }
 {
     let mut plan = Vec::new(alloc);
     for block in blocks {

@@ -6,7 +6,7 @@ ghost use Rattle.ssim_values.specs.Calendar.{weekday};
 ghost use Rattle.ssim_values.specs.Flight.{FlightNumber};
 ghost use Rattle.ssim_periods.specs.Calendar.{holds};
 ghost use Rattle.ssim_periods.specs.Days.{counts_on};
-ghost use Rattle.ssim_schedule.specs.internal.Blocks.{block_of, joined};
+ghost use Rattle.ssim_schedule.specs.internal.Blocks.{block_of, all_entries};
 ghost use Rattle.ssim_base.specs.ReadBack.{place_of};
 ghost use Rattle.ssim_base.specs.Timetable.{on_day};
 
@@ -33,12 +33,12 @@ pub(crate) struct FlightBlocks {
 
 impl Model for FlightBlocks {
     ghost use Rattle.std.specs.Prelude.{◌≡◌, length};
-    ghost use Rattle.ssim_schedule.specs.internal.Blocks.{AreBlocks, joined};
+    ghost use Rattle.ssim_schedule.specs.internal.Blocks.{AreBlocks, all_entries};
     ghost use Rattle.ssim_schedule.specs.internal.Table.{Table};
 
     ghost Value = { Table };
 
-    ghost view = { λ s. joined s.blocks.items };
+    ghost view = { λ s. all_entries s.blocks.items };
 
     ghost invariant = { λ s. AreBlocks 0 s.blocks.items × (length s.blocks.items ≡ 264) };
 }
@@ -160,7 +160,7 @@ impl FlightBlocks {
 
     /// The blocks, whose entries together rise by number and suffix of their flights.
     pub(crate) fn into_blocks(self) -> Vec<CopyOnWrite<FlightTable>>
-        ensures value { joined result.items ≡ self }
+        ensures value { all_entries result.items ≡ self }
         ensures rising { AreRising self }
     {
         self.blocks

@@ -3,7 +3,7 @@
 ghost use Rattle.std.specs.Prelude.{◌≡◌, ◌++◌, IfOk, OnOk, Some};
 ghost use Rattle.std.specs.List.{count_by};
 ghost use Rattle.ssim_base.specs.Export.{line};
-ghost use Rattle.ssim_program.specs.Receiving.{beginning_text, counts_text, is_refused, is_repeated};
+ghost use Rattle.ssim_program.specs.Receiving.{beginning_text, total_text, is_refused, is_repeated};
 ghost use Rattle.ssim_program.specs.Receiving.{is_taken, receipt_lines, receipt_text, refused_at};
 ghost use Rattle.ssim_program.specs.Receiving.{refused_text, refused_texts};
 ghost use Rattle.ssim_program.specs.internal.Receive.{receipt_of, receipts_of};
@@ -167,7 +167,7 @@ struct Counts {
 }
 
 impl fmt::Display for Counts {
-    ghost output = { λ c. Some (counts_text c.taken c.repeated c.refused) };
+    ghost output = { λ c. Some (total_text c.taken c.repeated c.refused) };
 
     fn fmt<W: fmt::Write>(&self, f: &mut fmt::Formatter<W>) -> fmt::Result {
         let Counts {

@@ -5,7 +5,7 @@ use Rattle.std.proofs.lemmas.List.{length-reverse}
 use Rattle.ssim_records.specs.InputBuffer.{Uses}
 use Rattle.ssim_records.specs.declared.record.Record.{Record}
 use Rattle.ssim_records.proofs.InputBuffers.{gives_then}
-use Rattle.ssim_base.specs.internal.Acceptance.{HasAccepted, IsRefused}
+use Rattle.ssim_base.specs.internal.Acceptance.{HasAccepted, IsRecordRefused}
 use Rattle.ssim_base.specs.BaseSeen.{AreFlights, WasRead}
 use Rattle.ssim_base.specs.SavedBase.{IsBaseRecords, saved}
 use Rattle.ssim_base.specs.internal.SavedLines.{IsLine}
@@ -53,7 +53,7 @@ returns-in-Err-Refused-clause-err g c =
     let is : c.next_line.result ≡ Ok true = search rules in
     let some = c.next_line.ensures.some is in
     let line : IsLine one (take 201 c.next_line.new.input.held) [] = rw c.in-Some.is at (some.1) in
-    let refused : IsRefused 0 i.earlier one (Refused c.in-Err-Refused.field-0-0 c.in-Err-Refused.field-0-1) = rw c.in-Err-Refused.field-0-is at (c.in-Err-Refused.ensures.err i.earlier i.is_kept) in
+    let refused : IsRecordRefused 0 i.earlier one (Refused c.in-Err-Refused.field-0-0 c.in-Err-Refused.field-0-1) = rw c.in-Err-Refused.field-0-is at (c.in-Err-Refused.ensures.err i.earlier i.is_kept) in
     let used = uses_more (saved (reverse i.earlier)) c.args.input.now c.loop-done.input c.next_line.new.input _ _ _ i.uses c.in_ok-next_line.ensures.uses in
     begins_none (saved (reverse i.earlier)) c.args.count _ _ used.next
     (λ rest at. left-none (saved (reverse i.earlier) ++ rest) rest c.args.count i.earlier (i.is_left rest) (λ all. omega (arith, all, i.number, c.loop-done-test.true))

@@ -4,7 +4,7 @@ use Rattle.ssim_records.specs.Blocks.{CountGoesOn, Fetches}
 use Rattle.ssim_records.specs.Reading.{BlockAnswer, CountsBlock, FailsAs, GivesNextBlock, HasNumber, HoldsFew, Reading, block_ending, without_block}
 use Rattle.ssim_records.specs.declared.fault.RecordFault.TheVariants.{Short}
 use Rattle.ssim_records.proofs.Framing.{counts_none, counts_twice, fetches_first, fetches_on}
-use Rattle.ssim_base.specs.Problems.{missing_in, numbered}
+use Rattle.ssim_base.specs.Problems.{missing_in, fault_at}
 use Rattle.ssim_base.specs.declared.fault.BaseFault.TheVariants.{Read}
 use Rattle.ssim_base.proofs.ProblemLemmas.{ToldBlocks, none-so-far, one-so-far, names-last, problems-cut, problems-end, told-block, told-none}
 use Rattle.ssim_base.proofs.ReadingLemmas.{while-open}
@@ -78,7 +78,7 @@ returns-in-Ok-None-clause-ok g c =
     let faults = c.in_ok-problems-in-Ok-None.ensures.faults so.standing so.checks_are in
     problems-end c.args.limit (g.R.Source.state c.args.reader.now).left (g.R.Source.state c.loop-next.reader).left (g.R.Source.state c.next_block.new.reader).left old new i.blocks found p i.limit_is so i.told gives
     c.in_ok-problems-in-Ok-None.ensures.records
-    (subst (λ (n : ℕ). p.faults.items ≡ found.faults.items ++ numbered (n + 1) (missing_in so.standing found.trailer)) c.number.ensures.value faults)
+    (subst (λ (n : ℕ). p.faults.items ≡ found.faults.items ++ fault_at (n + 1) (missing_in so.standing found.trailer)) c.number.ensures.value faults)
 
 pub returns-in-Err-Short-clause-ok : goal.returns-in-Err-Short-clause-ok
 returns-in-Err-Short-clause-ok g c =

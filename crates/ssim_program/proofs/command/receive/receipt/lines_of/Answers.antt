@@ -4,7 +4,7 @@ use Rattle.std.specs.List.{flat_map}
 use Rattle.std.proofs.lemmas.List.{take_all}
 use Rattle.std.proofs.lemmas.List.Folds.{flat_map-map}
 use Rattle.ssim_base.specs.Export.{line}
-use Rattle.ssim_program.specs.Receiving.{counts_text, receipt_text}
+use Rattle.ssim_program.specs.Receiving.{total_text, receipt_text}
 use Rattle.ssim_program.specs.internal.Receive.{receipt_of, receipts_of}
 use Rattle.ssim_program.proofs.command.receive.receipt.lines_of.Goals as goal
 
@@ -15,4 +15,4 @@ returns c =
     c.loop-receipt.invariant ∙ ap (flat_map (λ r. line (receipt_text (receipt_of r)))) (take_all c.loop-receipt.receipt-index receipts c.loop-receipt-test.false)
     ∙ sym (flat_map-map (λ r. line (receipt_text r)) receipt_of receipts) in
     c.in_ok-add_line.ensures
-    ∙ (λ i. all i ++ line (counts_text (c.count_of.ensures.taken i) (c.count_of.ensures.repeated i) (c.count_of.ensures.refused i)))
+    ∙ (λ i. all i ++ line (total_text (c.count_of.ensures.taken i) (c.count_of.ensures.repeated i) (c.count_of.ensures.refused i)))
