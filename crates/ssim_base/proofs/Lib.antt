@@ -27,6 +27,7 @@ mod NotedReads
 pub mod ReadingBack
 pub mod CameRecords
 pub mod ReadingLemmas
+pub mod RestLemmas
 pub mod ProblemChecks
 pub mod ProblemLemmas
 pub mod ProblemsOnce

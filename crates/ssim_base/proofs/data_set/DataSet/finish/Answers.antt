@@ -5,7 +5,8 @@ use Rattle.ssim_base.specs.Base.{Done, Outcome}
 use Rattle.ssim_base.specs.BaseSeen.{AreFlights, WasRead}
 use Rattle.ssim_base.specs.declared.fault.BaseFault.TheVariants.{Refused}
 use Rattle.ssim_base.specs.declared.note.Note.{Note}
-use Rattle.ssim_base.proofs.ReadingLemmas.{missing-outcome, of-all, whole-outcome, whole-within}
+use Rattle.ssim_base.proofs.ReadingLemmas.{missing-outcome, of-all, whole-outcome}
+use Rattle.ssim_base.proofs.RestLemmas.{whole-within}
 use Rattle.ssim_base.proofs.data_set.DataSet.finish.Goals as goal
 
 pub returns-in-Some-clause-read : goal.returns-in-Some-clause-read

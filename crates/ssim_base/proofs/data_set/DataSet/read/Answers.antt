@@ -1,6 +1,6 @@
 -- The notes are left out. Reading to the end counted no failure, and nothing is read after the end.
 use Rattle.std.proofs.Common.{◌≡◌, Err, rules}
-use Rattle.ssim_base.proofs.ReadingLemmas.{whole-within}
+use Rattle.ssim_base.proofs.RestLemmas.{whole-within}
 use Rattle.ssim_base.proofs.data_set.DataSet.read.Goals as goal
 
 pub returns-in_err-data_set-clause-err : goal.returns-in_err-data_set-clause-err

@@ -9,7 +9,8 @@ use Rattle.ssim_base.specs.Base.{Done, kept}
 use Rattle.ssim_base.specs.Reading.{Came}
 use Rattle.ssim_base.specs.internal.Reading.{AreGivenOf}
 use Rattle.ssim_base.specs.declared.fault.BaseFault.TheVariants.{Memory}
-use Rattle.ssim_base.proofs.ReadingLemmas.{Numbered, Told, after-fault, after-refused, came-in, ended-beyond, fails-after, fault-fails, never-refused, never-fails, refused-fails, step-refused, while-open, nothing, one-more, told-end, told-fault, told-first, told-step}
+use Rattle.ssim_base.proofs.ReadingLemmas.{Numbered, Told, came-in, ended-beyond, fails-after, fault-fails, never-refused, never-fails, refused-fails, step-refused, while-open, nothing, one-more, told-end, told-fault, told-first, told-step}
+use Rattle.ssim_base.proofs.RestLemmas.{after-fault, after-refused}
 use Rattle.ssim_base.proofs.data_set.reader.read_records.Goals as goal
 
 pub loop-number-init : goal.loop-number-init

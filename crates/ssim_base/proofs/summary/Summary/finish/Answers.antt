@@ -2,7 +2,8 @@
 use Rattle.std.proofs.Common.{◌≡◌, reverse, Err, None, rules, sym, ◌∙◌}
 use Rattle.std.proofs.lemmas.List.{length-reverse}
 use Rattle.ssim_base.specs.declared.fault.BaseFault.TheVariants.{Refused}
-use Rattle.ssim_base.proofs.ReadingLemmas.{missing-outcome, of-all, whole-outcome, whole-within}
+use Rattle.ssim_base.proofs.ReadingLemmas.{missing-outcome, of-all, whole-outcome}
+use Rattle.ssim_base.proofs.RestLemmas.{whole-within}
 use Rattle.ssim_base.proofs.summary.Summary.finish.Goals as goal
 
 pub returns-in-Some-clause-err : goal.returns-in-Some-clause-err
