@@ -50,21 +50,24 @@ rest-within limit (Some all) (Some x) None start now came came' h on end within 
 rest-within limit (Some all) (Some x) (Some y) start now came came' h on end within =
     omega (arith, h, on, ap length end, within)
 
+-- a fault of bytes within the limit
+whole-refused : (limit : ℕ) (told : Option (List ℕ)) (e : BaseFault) → Refuses limit told e
+    → IfSome told (λ bytes. length bytes ≤ limit) → RefusesWhole limit told e
+whole-refused limit told fault.Memory h within = tt
+whole-refused limit told (Read (Short n)) h within = (h, within)
+whole-refused limit told (Read (BadType n)) h within = (h, within)
+whole-refused limit told (Read (BadColumn n column)) h within = (h, within)
+whole-refused limit told (Read (ReadFault n)) h within = tt
+whole-refused limit told (Read (ReaderNeverEnds n)) h within = tt
+whole-refused limit told (Refused n refusal) h within = (h, within)
+
 -- the fault of the bytes, if those that are left end within the limit
 pub rest-refused : (limit : ℕ) (told left left' : Option (List ℕ)) (start now came came' : ℕ)
     (e : BaseFault) → Refuses limit told e → HaveCome told left start now came
     → CameOn left left' came came' → IsAtEnd left' → came' ≤ limit → RefusesWhole limit told e
-rest-refused limit told left left' start now came came' fault.Memory h c on end within = tt
-rest-refused limit told left left' start now came came' (Read (Short n)) h c on end within =
-    (h, rest-within limit told left left' start now came came' c on end within)
-rest-refused limit told left left' start now came came' (Read (BadType n)) h c on end within =
-    (h, rest-within limit told left left' start now came came' c on end within)
-rest-refused limit told left left' start now came came' (Read (BadColumn n column)) h c on end within =
-    (h, rest-within limit told left left' start now came came' c on end within)
-rest-refused limit told left left' start now came came' (Read (ReadFault n)) h c on end within = tt
-rest-refused limit told left left' start now came came' (Read (ReaderNeverEnds n)) h c on end within = tt
-rest-refused limit told left left' start now came came' (Refused n refusal) h c on end within =
-    (h, rest-within limit told left left' start now came came' c on end within)
+rest-refused limit told left left' start now came came' e h c on end within =
+    whole-refused limit told e h
+    (rest-within limit told left left' start now came came' c on end within)
 
 -- a fault that is not of the bytes says nothing of them
 pub other-refused : (limit : ℕ) (told : Option (List ℕ)) (e : BaseFault) → is_of_bytes e ≡ false
