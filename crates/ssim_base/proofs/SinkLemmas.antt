@@ -190,6 +190,33 @@ pub part_none : (h : List ℕ) (t : Writer) → GrowsUpTo (h ++ []) h t t
 part_none h t =
     subst (λ (bs : List ℕ). GrowsUpTo bs h t t) (sym (nothing_after h)) (none_put h t)
 
+-- ---- the next part
+
+-- All bytes are put up to those that the buffer holds and those that are left. A part of these is
+-- put, and then the rest is left; or the put fails.
+module _ {all left : List ℕ} {t u : Writer} (h x rest : List ℕ) (split : left ≡ x ++ rest)
+    (before : GrowsUpTo all (h ++ left) t u)
+  where
+    pub next_put : {kept : List ℕ} {v : Writer} → GrowsUpTo (h ++ x) kept u v
+        → GrowsUpTo all (kept ++ rest) t v
+    next_put {kept} {v} put =
+        let done : Result (Unit {0}) (Unit {0}) = Ok tt in
+        puts_then all (h ++ left) (kept ++ rest) t u v done before
+        (rw split (part_put h x rest u v kept put))
+
+    pub next_breaks : {v : Writer} → Breaks (h ++ x) u v → Breaks all t v
+    next_breaks {v} put =
+        let failed : Result (Unit {0}) (Unit {0}) = Err tt in
+        puts_then all (h ++ left) [] t u v failed before (rw split (part_fails h x rest u v put))
+
+    pub next_fails : {A E : Type 0} {v : Writer} (held : List ℕ) (result : Result A E)
+        → IsErr result → Breaks (h ++ x) u v → PutsUpTo all held t v result
+    next_fails {A} {E} {v} held result err put = fails all held t v result err (next_breaks put)
+
+-- the buffer is empty, and all bytes are left
+pub from_empty : {b : List ℕ} (all : List ℕ) (t : Writer) → b ≡ [] → GrowsUpTo all (b ++ all) t t
+from_empty all t empty = rw empty (none_put all t)
+
 -- ---- results
 
 pub at_fault : {A E P : Type 0} (r : Result A E) → P → OnErr r P

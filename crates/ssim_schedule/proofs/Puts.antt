@@ -1,12 +1,10 @@
 -- The lines of an export in the parts in which they are put, and how many there are.
-use Rattle.std.proofs.Common.{◌≡◌, ℕ, suc, ◌+◌, ◌-◌, List, [], ◌∷◌, ◌++◌, map, length, replicate, Result, Ok, Err, append_assoc, length-append, refl, sym, ap, ap₂, ◌∙◌, arith}
+use Rattle.std.proofs.Common.{◌≡◌, ℕ, suc, ◌+◌, ◌-◌, List, [], ◌∷◌, ◌++◌, map, length, replicate, append_assoc, length-append, refl, sym, ap, ap₂, ◌∙◌, arith}
 use Rattle.std.specs.Prelude.{slice_index}
 use Rattle.std.specs.List.{flat_map}
-use Rattle.std.specs.Result.{IsErr}
 use Rattle.std.proofs.lemmas.List.{length-map}
 use Rattle.ssim_values.specs.Flight.{FlightNumber}
 use Rattle.ssim_values.specs.Period.{DayRange}
-use Rattle.ssim_records.specs.Device.{Writer}
 use Rattle.ssim_records.specs.Frames.{fill}
 use Rattle.ssim_records.specs.Leg.{Name, exported_leg, written_leg}
 use Rattle.ssim_records.specs.Record.{written}
@@ -18,11 +16,10 @@ use Rattle.ssim_records.specs.declared.record.Record.{Record}
 use Rattle.ssim_records.specs.declared.record.Record.TheVariants.{Header, Carrier, Trailer}
 use Rattle.ssim_base.specs.Timetable.{LegValue, Legs}
 use Rattle.ssim_base.specs.Export.{Piece, fill_count, frame_from, leg_records, line, numbered, pieces_records, section_bytes, tail_record, with_serial}
-use Rattle.ssim_base.specs.Sinks.{Breaks, GrowsUpTo, PutsUpTo}
 use Rattle.ssim_schedule.specs.FlightPieces.{Divided}
 use Rattle.ssim_schedule.specs.internal.Plan.{alone_bytes, leg_lines, numbered_lines, piece_lines, pieces_count, plan_bytes, plan_count, plan_lines, plan_records, tail_lines}
 use Rattle.ssim_schedule.specs.internal.SharedLegs.{legs_count}
-use Rattle.ssim_base.proofs.SinkLemmas.{fails, none_put, one_section, part_fails, part_put, puts_then}
+use Rattle.ssim_base.proofs.SinkLemmas.{one_section}
 
 -- ---- how many
 
@@ -142,30 +139,3 @@ four_sections {next = next} header carrier trailer plan header_is carrier_is air
     ++ (section_bytes (numbered 3 records)
     ++ (section_bytes (Trailer (record trailer { check = check; serial = serial }) ∷ []) ++ []))) in
     rw (header_is, carrier_is, airline_is, it) (ap₂ whole check last)
-
--- ---- puts
-
--- All bytes are put up to those that the buffer holds and those that are left. A part of these is
--- put, and then the rest is left; or the put fails.
-module _ {all left : List ℕ} {t u : Writer} (h x rest : List ℕ) (split : left ≡ x ++ rest)
-    (before : GrowsUpTo all (h ++ left) t u)
-  where
-    pub next_put : {kept : List ℕ} {v : Writer} → GrowsUpTo (h ++ x) kept u v
-        → GrowsUpTo all (kept ++ rest) t v
-    next_put {kept} {v} put =
-        let done : Result (Unit {0}) (Unit {0}) = Ok tt in
-        puts_then all (h ++ left) (kept ++ rest) t u v done before
-        (rw split (part_put h x rest u v kept put))
-
-    pub next_breaks : {v : Writer} → Breaks (h ++ x) u v → Breaks all t v
-    next_breaks {v} put =
-        let failed : Result (Unit {0}) (Unit {0}) = Err tt in
-        puts_then all (h ++ left) [] t u v failed before (rw split (part_fails h x rest u v put))
-
-    pub next_fails : {A E : Type 0} {v : Writer} (held : List ℕ) (result : Result A E)
-        → IsErr result → Breaks (h ++ x) u v → PutsUpTo all held t v result
-    next_fails {A} {E} {v} held result err put = fails all held t v result err (next_breaks put)
-
--- the buffer is empty, and all bytes are left
-pub from_empty : {b : List ℕ} (all : List ℕ) (t : Writer) → b ≡ [] → GrowsUpTo all (b ++ all) t t
-from_empty all t empty = rw empty (none_put all t)

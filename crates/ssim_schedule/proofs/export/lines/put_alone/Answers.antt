@@ -1,6 +1,6 @@
 -- The record, and then the fill.
-use Rattle.ssim_base.proofs.SinkLemmas.{none_put, puts_then}
-use Rattle.ssim_schedule.proofs.Puts.{alone-split, next_fails, next_put}
+use Rattle.ssim_base.proofs.SinkLemmas.{next_fails, next_put, none_put, puts_then}
+use Rattle.ssim_schedule.proofs.Puts.{alone-split}
 use Rattle.ssim_schedule.proofs.export.lines.put_alone.Goals as goal
 
 pub returns-in_err-put_record : goal.returns-in_err-put_record

@@ -4,9 +4,9 @@ use Rattle.std.proofs.lemmas.List.{append-nil}
 use Rattle.ssim_records.specs.declared.record.Record.TheVariants.{Trailer}
 use Rattle.ssim_base.specs.Export.{frame_from}
 use Rattle.ssim_base.specs.Sinks.{GrowsUpTo}
-use Rattle.ssim_base.proofs.SinkLemmas.{all_fail, if_ok, puts_all}
+use Rattle.ssim_base.proofs.SinkLemmas.{all_fail, from_empty, if_ok, next_breaks, next_put, puts_all}
 use Rattle.ssim_schedule.specs.internal.Plan.{alone_bytes, plan_bytes}
-use Rattle.ssim_schedule.proofs.Puts.{from_empty, four_sections, next_breaks, next_put}
+use Rattle.ssim_schedule.proofs.Puts.{four_sections}
 use Rattle.ssim_schedule.proofs.export.lines.put_export.Given as given
 use Rattle.ssim_schedule.proofs.export.lines.put_export.Goals as goal
 use Rattle.ssim_schedule.proofs.export.lines.put_export.Goals.{After-put_alone-3}

@@ -6,7 +6,8 @@ use Rattle.ssim_base.specs.Export.{Piece}
 use Rattle.ssim_base.proofs.Each.{all_left}
 use Rattle.ssim_schedule.specs.FlightPieces.{Divided}
 use Rattle.ssim_schedule.specs.internal.Plan.{HasWritableLegs, HasWritablePieces, pieces_count, plan_count}
-use Rattle.ssim_schedule.proofs.Puts.{flights-split, next_fails, next_put}
+use Rattle.ssim_base.proofs.SinkLemmas.{next_fails, next_put}
+use Rattle.ssim_schedule.proofs.Puts.{flights-split}
 use Rattle.ssim_schedule.proofs.export.lines.put_flights.Goals as goal
 
 -- the first of those that are left has few pieces, and so do the others

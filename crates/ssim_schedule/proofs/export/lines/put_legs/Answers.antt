@@ -8,7 +8,8 @@ use Rattle.ssim_base.specs.ReadBack.{IsWritable}
 use Rattle.ssim_base.proofs.Each.{all_done, all_more, item}
 use Rattle.ssim_schedule.specs.internal.Plan.{leg_lines, tail_lines}
 use Rattle.ssim_schedule.specs.internal.SharedLegs.{legs_count}
-use Rattle.ssim_schedule.proofs.Puts.{legs-split, next_fails, next_put}
+use Rattle.ssim_base.proofs.SinkLemmas.{next_fails, next_put}
+use Rattle.ssim_schedule.proofs.Puts.{legs-split}
 use Rattle.ssim_schedule.proofs.export.lines.put_legs.Given as given
 use Rattle.ssim_schedule.proofs.export.lines.put_legs.Goals as goal
 use Rattle.ssim_schedule.proofs.export.lines.put_legs.Goals.{After-put_leg}

@@ -6,7 +6,8 @@ use Rattle.ssim_base.specs.ReadBack.{IsWritable}
 use Rattle.ssim_base.proofs.Each.{all_done, all_more, item}
 use Rattle.ssim_schedule.specs.internal.Plan.{HasWritableLegs, pieces_count}
 use Rattle.ssim_schedule.specs.internal.SharedLegs.{legs_count}
-use Rattle.ssim_schedule.proofs.Puts.{next_fails, next_put, pieces-split}
+use Rattle.ssim_base.proofs.SinkLemmas.{next_fails, next_put}
+use Rattle.ssim_schedule.proofs.Puts.{pieces-split}
 use Rattle.ssim_schedule.proofs.export.lines.put_pieces.Goals as goal
 
 pub returns-in_err-next-clause-puts : goal.returns-in_err-next-clause-puts

@@ -2,7 +2,8 @@
 use Rattle.std.proofs.Common.{arith}
 use Rattle.ssim_records.specs.Segment.{IsTail}
 use Rattle.ssim_base.proofs.Each.{all_more, item}
-use Rattle.ssim_schedule.proofs.Puts.{next_fails, next_put, tails-split}
+use Rattle.ssim_base.proofs.SinkLemmas.{next_fails, next_put}
+use Rattle.ssim_schedule.proofs.Puts.{tails-split}
 use Rattle.ssim_schedule.proofs.export.lines.put_tails.Goals as goal
 
 pub returns-in_err-put_segment-clause-puts : goal.returns-in_err-put_segment-clause-puts
