@@ -1,5 +1,5 @@
 -- After the last record or a fault a reader is read to its end: what the rest of its bytes adds.
-use Rattle.std.proofs.Common.{◌≡◌, ℕ, ◌+◌, ◌-◌, ◌≤◌, ◌%◌, ◌^◌, true, false, List, [], ◌∷◌, ◌++◌, length, Option, Some, None, Err, inl, inr, refl, sym, ap, subst, ◌∙◌, append_assoc, arith}
+use Rattle.std.proofs.Common.{◌≡◌, ℕ, ◌+◌, ◌-◌, ◌≤◌, ◌%◌, ◌^◌, true, false, List, [], ◌∷◌, ◌++◌, length, reverse, Option, Some, None, Ok, Err, inl, inr, refl, sym, ap, subst, ◌∙◌, append_assoc, arith}
 use Rattle.std.specs.Prelude.{IfSome}
 use Rattle.std.specs.Io.KnownBytes.{IsAtEnd}
 use Rattle.ssim_records.specs.Blocks.{CameOn, CountGoesOn, CountsOn, Fetches, StaysLeft}
@@ -10,15 +10,18 @@ use Rattle.ssim_records.specs.declared.fault.RecordFault.{RecordFault}
 use Rattle.ssim_records.specs.declared.fault.RecordFault.TheVariants.{Short, BadType, BadColumn, ReadFault, ReaderNeverEnds}
 use Rattle.ssim_records.specs.declared.record.Record.{Record}
 use Rattle.ssim_records.proofs.FrameLaws.{frames_exist}
-use Rattle.ssim_base.specs.Base.{Done}
+use Rattle.ssim_base.specs.Base.{Done, missing}
 use Rattle.ssim_base.specs.internal.Acceptance.{IsRecordRefused}
-use Rattle.ssim_base.specs.Reading.{AreComplete, Came, HaveCome, FailsAfter, FailsAs, Gives, IsAfterInvalid, IsReadOf, IsRecordAfter, NamesNext, NeverEnds, RefusesWhole, is_of_bytes}
+use Rattle.ssim_base.specs.internal.DataSetReader.{HasRead}
+use Rattle.ssim_base.specs.Reading.{AreComplete, Came, HaveCome, FailsAfter, FailsAs, Gives, IsAfterInvalid, IsReadOf, IsRecordAfter, NamesNext, NeverEnds, RefusesReading, RefusesWhole, is_of_bytes}
 use Rattle.ssim_base.specs.internal.Reading.{AreGivenOf, Refuses}
 use Rattle.ssim_base.specs.declared.fault.BaseFault.{BaseFault}
 use Rattle.ssim_base.specs.declared.fault.BaseFault.TheVariants as fault
 use Rattle.ssim_base.specs.declared.fault.BaseFault.TheVariants.{Read, Refused}
+use Rattle.ssim_base.specs.declared.fault.BaseRefusal.{BaseRefusal}
+use Rattle.ssim_base.specs.declared.data_set.reader.DataSetReader.{DataSetReader}
 use Rattle.ssim_base.proofs.CameRecords.{counted-came}
-use Rattle.ssim_base.proofs.ReadingLemmas.{Numbered}
+use Rattle.ssim_base.proofs.ReadingLemmas.{Numbered, missing-outcome, of-all, whole-outcome}
 
 -- ---- a reader that is read to its end
 
@@ -39,6 +42,39 @@ whole-within limit (Some all) done number given =
     gives-within (length given.blocks) given.rest (length all - limit) (others 0 given.blocks) done
     number given.given in
     omega (arith, over)
+
+-- ---- the records and notes that were read, at the end
+
+-- one is missing, which is what the bytes are read as
+pub missing-read : {limit : ℕ} {told : Option (List ℕ)} {Has : List Record → Type 0}
+    {g : DataSetReader} {number : ℕ} (refusal : BaseRefusal) (h : HasRead limit told Has g number)
+    → missing h.earlier ≡ Some refusal → IsReadOf limit told (Err (Refused number refusal))
+missing-read {limit} {told} {Has} {g} {number} refusal h lacking =
+    of-all limit told h.done number (Err (Refused number refusal)) h.given
+    (missing-outcome g h.earlier h.done number refusal h.so_far lacking) h.so_far.records
+
+-- so a reading to the end is refused
+pub missing-refuses : {limit : ℕ} {before after : Reader} {Has : List Record → Type 0}
+    {g : DataSetReader} {number : ℕ} (refusal : BaseRefusal)
+    (h : HasRead limit before.left Has g number) → missing h.earlier ≡ Some refusal
+    → after.failures ≡ before.failures → RefusesReading limit before after (Refused number refusal)
+missing-refuses {limit} {before} {after} {Has} {g} {number} refusal h lacking same = record {
+  refused =
+      (missing-read refusal h lacking, whole-within limit before.left h.done number h.given);
+  failure = same;
+  names = tt;
+  never_ends = tt;
+}
+
+-- none is missing, and the bytes are read as these
+pub whole-read : {limit : ℕ} {told : Option (List ℕ)} {Has : List Record → Type 0}
+    {g : DataSetReader} {number : ℕ} (h : HasRead limit told Has g number)
+    → missing h.earlier ≡ None → IsReadOf limit told (Ok (reverse h.earlier, g.notes.items))
+whole-read {limit} {told} {Has} {g} {number} h none =
+    of-all limit told h.done number (Ok (reverse h.earlier, g.notes.items)) h.given
+    (whole-outcome g h.earlier h.done number h.so_far none) h.so_far.records
+
+-- ---- the bytes that are left
 
 -- what bytes are read as, if the bytes that are left end within the limit
 rest-within : (limit : ℕ) (told left left' : Option (List ℕ)) (start now came came' : ℕ)
