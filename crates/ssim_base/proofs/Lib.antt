@@ -25,6 +25,7 @@ pub mod LegTables
 pub mod AcceptanceLemmas
 mod NotedReads
 pub mod ReadingBack
+pub mod BlocksAhead
 pub mod CameRecords
 pub mod ReadingLemmas
 pub mod RestLemmas

@@ -1,5 +1,5 @@
 -- From block to block: the problems of those so far, and what the blocks that are left still give.
-use Rattle.std.proofs.Common.{◌≡◌, ℕ, ◌+◌, ◌-◌, ◌%◌, ◌^◌, ◌<◌, false, ◌||◌, List, [], ◌∷◌, ◌++◌, length, Option, Some, None, Ok, Err, refl, sym, ap, subst, ◌∙◌, append_assoc, arith}
+use Rattle.std.proofs.Common.{◌≡◌, ℕ, ◌+◌, ◌-◌, ◌<◌, false, ◌||◌, List, [], ◌∷◌, ◌++◌, length, Option, Some, None, Ok, Err, refl, sym, ap, subst, ◌∙◌, append_assoc, arith}
 use Rattle.std.proofs.lemmas.List.{append-nil, length-append}
 use Rattle.std.proofs.lemmas.List.Folds.{list_any-append}
 use Rattle.std.proofs.Math.Bool.{or-false}
@@ -7,7 +7,7 @@ use Rattle.std.specs.List.{list_any}
 use Rattle.ssim_records.specs.Blocks.{CountGoesOn, Fetches, beyond}
 use Rattle.ssim_records.specs.Frames.{Frames, FramesExist, others}
 use Rattle.ssim_records.specs.Reading as reading
-use Rattle.ssim_records.specs.Reading.{GivesNextBlock, HasNumber, IsAhead, Reading, without_block}
+use Rattle.ssim_records.specs.Reading.{GivesNextBlock, HasNumber, Reading, without_block}
 use Rattle.ssim_records.specs.declared.fault.RecordFault.{RecordFault}
 use Rattle.ssim_records.specs.declared.fault.RecordFault.TheVariants.{Short, BadType, BadColumn, ReadFault, ReaderNeverEnds}
 use Rattle.ssim_base.specs.Problems.{AreItems, AreProblems, After, HasProblems, Item, NamesLast, Standing, after_item, begins_as_trailer, end_problem, missing_in, fault_at, problem_in, problems_in, standing_after}
@@ -16,6 +16,8 @@ use Rattle.ssim_base.specs.internal.Problems.{IsNew, HasStanding, Takes}
 use Rattle.ssim_base.specs.declared.fault.BaseFault.TheVariants.{Read}
 use Rattle.ssim_base.specs.declared.problems.ProblemReader.{ProblemReader}
 use Rattle.ssim_base.specs.declared.problems.Problems.{Problems}
+use Rattle.ssim_base.specs.internal.DataSetReader.{unread}
+use Rattle.ssim_base.proofs.BlocksAhead.{AreAhead, all-ahead, counted-bytes, rest-ahead}
 use Rattle.ssim_base.proofs.ReadingLemmas.{after-complete}
 
 -- ---- the problems so far
@@ -94,41 +96,16 @@ are-problems all blocks rest before found p so framed same records faults = reco
 
 -- ---- what the blocks that are left give
 
--- the blocks so far are the first ones, and the others are ahead
-pub record IsToldBlocks (limit : ℕ) (all left : List ℕ) (r : Reading) (before : List (ℕ × List ℕ)) : Type 0 where
-  pub blocks : List (List ℕ)
-  pub later : List (List ℕ)
-  pub rest : List ℕ
-  pub framed : AreBlocks limit all blocks rest
-  pub ahead : IsAhead r left later rest
-  pub came : r.came + length left ≡ length all
-  pub count : r.number + length later ≡ length blocks
-  pub split : others 0 blocks ≡ before ++ others r.number later
-
 -- if the reader reports its bytes
 abbrev pub ToldBlocks : ℕ → Option (List ℕ) → Option (List ℕ) → Reading → List (ℕ × List ℕ) → Type 0
 ToldBlocks limit None left r before = Unit {0}
 ToldBlocks limit (Some all) None r before = ⊥
-ToldBlocks limit (Some all) (Some left) r before = IsToldBlocks limit all left r before
+ToldBlocks limit (Some all) (Some left) r before = AreAhead limit all left r before
 
-abbrev fresh : ℕ → Reading
-fresh limit = record { limit = limit; came = 0; number = 0; held = []; ended = None }
-
-pub told-none : (limit : ℕ) (told : Option (List ℕ)) → FramesExist → ToldBlocks limit told told (fresh limit) []
+pub told-none : (limit : ℕ) (told : Option (List ℕ)) → FramesExist
+    → ToldBlocks limit told told (unread limit) []
 told-none limit None exist = tt
-told-none limit (Some all) exist =
-    let e = exist (length all - limit) false all in
-    let over : length all - limit ≡ (0 + length all) - limit = omega arith in
-    record {
-      blocks = e.0;
-      later = e.0;
-      rest = e.1.0;
-      framed = e.1.1;
-      ahead = subst (λ n. Frames n false all e.0 e.1.0) over e.1.1;
-      came = omega arith;
-      count = omega arith;
-      split = refl;
-    }
+told-none limit (Some all) exist = all-ahead limit all exist
 
 pub told-block : (limit : ℕ) (told left left' : Option (List ℕ)) (r new : Reading) (before : List (ℕ × List ℕ)) (number : ℕ) (block : List ℕ) → ToldBlocks limit told left r before
     → GivesNextBlock r left new left' (Ok (Some (number, block))) → ToldBlocks limit told left' new (before ++ (number, block) ∷ [])
@@ -137,31 +114,25 @@ told-block limit (Some all) None left' r new before number block t given = absur
 told-block limit (Some all) (Some left) None r new before number block t given = absurd given
 told-block limit (Some all) (Some left) (Some left') r new before number block t given =
     let a = given.1 t.later t.rest t.ahead in
-    let later = a.0 in
-    let next = a.1 in
-    record {
-      blocks = t.blocks;
-      later = later;
-      rest = t.rest;
-      framed = t.framed;
-      ahead = a.3;
-      came = given.0 ∙ t.came;
-      count = next.1 ∙ t.count;
-      split = t.split
-          ∙ ap (λ bs. before ++ bs) (next.0 ∙ ap (λ n. (n, block) ∷ others new.number later) (sym a.2))
-          ∙ sym (append_assoc before ((number, block) ∷ []) (others new.number later));
-    }
+    subst (λ n. AreAhead limit all left' new (before ++ (n, block) ∷ [])) (sym a.2)
+    (rest-ahead limit all left left' r new before block a.0 t given.0 a.1 a.3)
 
 -- ---- the end
 
 -- the blocks so far are all, if nothing but fill is left
-all-blocks : (limit : ℕ) (all left : List ℕ) (r new : Reading) (before : List (ℕ × List ℕ)) → (t : IsToldBlocks limit all left r before) → reading.IsLast r t.later new → others 0 t.blocks ≡ before
+all-blocks : (limit : ℕ) (all left : List ℕ) (r new : Reading) (before : List (ℕ × List ℕ))
+    → (t : AreAhead limit all left r before) → reading.IsLast r t.later new
+    → others 0 t.blocks ≡ before
 all-blocks limit all left r new before t last = t.split ∙ ap (λ bs. before ++ bs) last.0 ∙ append-nil before
 
-count-blocks : (limit : ℕ) (all left : List ℕ) (r new : Reading) (before : List (ℕ × List ℕ)) → (t : IsToldBlocks limit all left r before) → reading.IsLast r t.later new → new.number ≡ length t.blocks
+count-blocks : (limit : ℕ) (all left : List ℕ) (r new : Reading) (before : List (ℕ × List ℕ))
+    → (t : AreAhead limit all left r before) → reading.IsLast r t.later new
+    → new.number ≡ length t.blocks
 count-blocks limit all left r new before t last = last.1 ∙ t.count
 
-over-none : (limit : ℕ) (all left : List ℕ) (r : Reading) (before : List (ℕ × List ℕ)) → IsToldBlocks limit all left r before → r.limit ≡ limit → beyond r.limit r.came left ≡ 0 → length all - limit ≡ 0
+over-none : (limit : ℕ) (all left : List ℕ) (r : Reading) (before : List (ℕ × List ℕ))
+    → AreAhead limit all left r before → r.limit ≡ limit → beyond r.limit r.came left ≡ 0
+    → length all - limit ≡ 0
 over-none limit all left r before t same none = let came = t.came in omega (arith, came, same, none)
 
 -- the bytes end after a block
@@ -239,16 +210,15 @@ blocks-beyond limit told left left' start now r new before (BadColumn n column) 
 blocks-beyond limit told left left' start now r new before (ReadFault n) same t given counts over = tt
 blocks-beyond limit told left left' start now r new before (ReaderNeverEnds n) same t given counts over = came told left left' t given counts
   where
-    is : new.came ≡ limit + 1
-    is = over.0 ∙ ap (λ k. k + 1) same
+    is : limit + 1 ≡ new.came
+    is = sym (over.0 ∙ ap (λ k. k + 1) same)
 
     came : (told left left' : Option (List ℕ)) → ToldBlocks limit told left r before → GivesNextBlock r left new left' (Err (ReaderNeverEnds n)) → CountGoesOn told left' start now 0 new.came
         → HaveCome told left' start now (limit + 1)
     came None left None t given counts =
-        let wrapped : (now + 0) % 2 ^ 128 ≡ (start + new.came) % 2 ^ 128 = counts in
-        let same : now + 0 ≡ now = omega arith in
-        ap (λ k. k % 2 ^ 128) (sym same) ∙ wrapped ∙ ap (λ k. (start + k) % 2 ^ 128) is
+        counted-bytes start now (limit + 1) new.came is counts
     came None left (Some y) t given counts = counts
     came (Some all) None left' t given counts = absurd t
     came (Some all) (Some left) None t given counts = given
-    came (Some all) (Some left) (Some left') t given counts = ap (λ k. k + length left') (sym is) ∙ given.0 ∙ t.came
+    came (Some all) (Some left) (Some left') t given counts =
+        ap (λ k. k + length left') is ∙ given.0 ∙ t.came

@@ -7,7 +7,7 @@ use Rattle.std.specs.Prelude.{IfNone}
 use Rattle.ssim_records.specs.Blocks.{CountGoesOn, Fetches, beyond}
 use Rattle.ssim_records.specs.Frames.{Frames, FramesExist, others}
 use Rattle.ssim_records.specs.Reading as reading
-use Rattle.ssim_records.specs.Reading.{Answer, FetchesNext, Reading, GivesNext, HasNumber, IsAhead}
+use Rattle.ssim_records.specs.Reading.{Answer, FetchesNext, Reading, GivesNext, HasNumber}
 use Rattle.ssim_records.specs.Record.{IsRecord, fault_of, serial_of}
 use Rattle.ssim_records.specs.declared.fault.RecordFault.{RecordFault}
 use Rattle.ssim_records.specs.declared.fault.RecordFault.TheVariants.{Short, BadType, BadColumn, ReadFault, ReaderNeverEnds}
@@ -15,9 +15,9 @@ use Rattle.ssim_records.specs.declared.record.Record.{Record}
 use Rattle.ssim_records.specs.declared.records.Ending as records
 use Rattle.ssim_records.proofs.Framing.{takes_all}
 use Rattle.ssim_base.specs.Base.{Ending, Done, Broken, Outcome, at_record, check_notes, data_set, first_refusal, kept, kept_all, missing, note_if, notes_of, refusal_at, unless_refused}
-use Rattle.ssim_base.specs.internal.DataSetReader.{IsSoFar, notes_at}
+use Rattle.ssim_base.specs.internal.DataSetReader.{IsSoFar, notes_at, unread}
 use Rattle.ssim_base.specs.internal.Acceptance.{HasAccepted, IsRecordRefused, AcceptsNext}
-use Rattle.ssim_base.specs.Reading.{AreBlocks, AreGiven, Begins, HaveCome, FailsAfter, FailsAs, Gives, IsAfterComplete, IsReadOf, NeverEnds, Stops}
+use Rattle.ssim_base.specs.Reading.{AreGiven, Begins, HaveCome, FailsAfter, FailsAs, Gives, IsAfterComplete, IsReadOf, NeverEnds, Stops}
 use Rattle.ssim_base.specs.internal.Reading.{AreGivenOf, Refuses}
 use Rattle.ssim_base.specs.ReadBack.{EachSpells}
 use Rattle.ssim_base.specs.declared.fault.BaseFault.{BaseFault}
@@ -27,6 +27,7 @@ use Rattle.ssim_base.specs.declared.fault.BaseRefusal.{BaseRefusal}
 use Rattle.ssim_base.specs.declared.data_set.reader.DataSetReader.{DataSetReader}
 use Rattle.ssim_base.specs.declared.note.Note.{Note}
 use Rattle.ssim_base.specs.declared.note.Note.TheVariants.{Serial}
+use Rattle.ssim_base.proofs.BlocksAhead.{AreAhead, all-ahead, counted-bytes, rest-ahead}
 use Rattle.ssim_base.proofs.CameRecords.{After, UpTo, first-blocks, others-after, others-append, others-up-to, part-once, up-to-append, up-to-more}
 use Rattle.ssim_base.proofs.FirstRefusals.{all_allowed}
 
@@ -98,15 +99,8 @@ fault-outcome g earlier done f so_far =
 
 -- the records so far are those of the first blocks, and the others are ahead
 pub record IsTold (limit : ℕ) (all left : List ℕ) (r : Reading) (done : List Numbered) : Type 0 where
-  pub blocks : List (List ℕ)
-  pub later : List (List ℕ)
-  pub rest : List ℕ
-  pub framed : AreBlocks limit all blocks rest
-  pub ahead : IsAhead r left later rest
-  pub came : r.came + length left ≡ length all
-  pub count : r.number + length later ≡ length blocks
   pub before : List (ℕ × List ℕ)
-  pub split : others 0 blocks ≡ before ++ others r.number later
+  pub are : AreAhead limit all left r before
   pub spelled : EachSpells before done
   pub few : UpTo r.number before
 
@@ -135,46 +129,23 @@ begins-append [] left (r ∷ done) records a b = absurd a
 begins-append (x ∷ before) left [] records a b = absurd a
 begins-append (x ∷ before) left (r ∷ done) records a b = (a.0, a.1, begins-append before left done records a.2 b)
 
-abbrev fresh : ℕ → Reading
-fresh limit = record { limit = limit; came = 0; number = 0; held = []; ended = None }
-
-pub told-first : (limit : ℕ) (told : Option (List ℕ)) → FramesExist → Told limit told told (fresh limit) []
+pub told-first : (limit : ℕ) (told : Option (List ℕ)) → FramesExist
+    → Told limit told told (unread limit) []
 told-first limit None exist = tt
 told-first limit (Some all) exist =
-    let e = exist (length all - limit) false all in
-    let over : length all - limit ≡ (0 + length all) - limit = omega arith in
-    record {
-      blocks = e.0;
-      later = e.0;
-      rest = e.1.0;
-      framed = e.1.1;
-      ahead = subst (λ n. Frames n false all e.0 e.1.0) over e.1.1;
-      came = omega arith;
-      count = omega arith;
-      before = [];
-      split = refl;
-      spelled = tt;
-      few = tt;
-    }
+    record { before = []; are = all-ahead limit all exist; spelled = tt; few = tt }
 
-step : (limit : ℕ) (all left left' : List ℕ) (r new : Reading) (done : List Numbered) (x : Numbered) → IsTold limit all left r done → GivesNext r (Some left) new (Some left') (Ok (Some x))
+step : (limit : ℕ) (all left left' : List ℕ) (r new : Reading) (done : List Numbered) (x : Numbered)
+    → IsTold limit all left r done → GivesNext r (Some left) new (Some left') (Ok (Some x))
     → IsTold limit all left' new (done ++ x ∷ [])
 step limit all left left' r new done x t given =
-    let a = given.1 t.later t.rest t.ahead in
+    let a = given.1 t.are.later t.are.rest t.are.ahead in
     let block = a.0 in
-    let later = a.1 in
     let next = a.2 in
-    let after = subst (After r.number) next.0 (others-after r.number t.later) in
+    let after = subst (After r.number) next.0 (others-after r.number t.are.later) in
     record {
-      blocks = t.blocks;
-      later = later;
-      rest = t.rest;
-      framed = t.framed;
-      ahead = a.5;
-      came = given.0 ∙ t.came;
-      count = next.1 ∙ t.count;
       before = t.before ++ (new.number, block) ∷ [];
-      split = t.split ∙ ap (λ bs. t.before ++ bs) next.0 ∙ sym (append_assoc t.before ((new.number, block) ∷ []) (others new.number later));
+      are = rest-ahead limit all left left' r new t.before block a.1 t.are given.0 next a.5;
       spelled = each-append t.before ((new.number, block) ∷ []) done (x ∷ []) t.spelled (sym a.3, a.4, tt);
       few =
           up-to-append new.number t.before ((new.number, block) ∷ [])
@@ -191,19 +162,26 @@ told-step limit (Some all) (Some left) (Some left') r new done x t given = step 
 -- ---- how reading ends
 
 -- after the records so far come these blocks
-given-by : (limit : ℕ) (all left : List ℕ) (r : Reading) (done : List Numbered) (ending : Ending) → (t : IsTold limit all left r done)
-    → Stops (length t.blocks) t.rest (length all - limit) (others r.number t.later) ending → AreGiven limit all done ending
-given-by limit all left r done ending t stops = record {
-  blocks = t.blocks;
-  rest = t.rest;
-  framed = t.framed;
-  given = subst (λ bs. Gives (length t.blocks) t.rest (length all - limit) bs done ending) (sym t.split)
-      (subst (λ rs. Gives (length t.blocks) t.rest (length all - limit) (t.before ++ others r.number t.later) rs ending) (append-nil done)
-      (gives-append (length t.blocks) t.rest (length all - limit) t.before (others r.number t.later) done [] ending t.spelled stops));
-}
+given-by : (limit : ℕ) (all left : List ℕ) (r : Reading) (done : List Numbered) (ending : Ending)
+    → (t : IsTold limit all left r done)
+    → Stops (length t.are.blocks) t.are.rest (length all - limit) (others r.number t.are.later) ending
+    → AreGiven limit all done ending
+given-by limit all left r done ending t stops =
+    let count = length t.are.blocks in
+    let over = length all - limit in
+    let later = others r.number t.are.later in
+    let both = gives-append count t.are.rest over t.before later done [] ending t.spelled stops in
+    record {
+      blocks = t.are.blocks;
+      rest = t.are.rest;
+      framed = t.are.framed;
+      given = subst (λ bs. Gives count t.are.rest over bs done ending) (sym t.are.split)
+          (subst (λ rs. Gives count t.are.rest over (t.before ++ later) rs ending)
+          (append-nil done) both);
+    }
 
 over-is : (limit : ℕ) (all left : List ℕ) (r : Reading) (done : List Numbered) → (t : IsTold limit all left r done) → r.limit ≡ limit → beyond r.limit r.came left ≡ length all - limit
-over-is limit all left r done t same = ap (λ n. n - r.limit) t.came ∙ ap (λ n. length all - n) same
+over-is limit all left r done t same = ap (λ n. n - r.limit) t.are.came ∙ ap (λ n. length all - n) same
 
 pub told-end : (limit : ℕ) (told left left' : Option (List ℕ)) (r new : Reading) (done : List Numbered) → r.limit ≡ limit → Told limit told left r done → GivesNext r left new left' (Ok None)
     → AreGivenOf limit told done (Done (new.number + 1))
@@ -211,35 +189,41 @@ told-end limit None left left' r new done same t given = tt
 told-end limit (Some all) None left' r new done same t given = absurd t
 told-end limit (Some all) (Some left) None r new done same t given = absurd given
 told-end limit (Some all) (Some left) (Some left') r new done same t given =
-    let a = given.1 t.later t.rest t.ahead in
+    let a = given.1 t.are.later t.are.rest t.are.ahead in
     let last = a.0 in
     given-by limit all left r done (Done (new.number + 1)) t
-    (last.0, a.1, sym (over-is limit all left r done t same) ∙ a.2, ap (λ n. n + 1) (last.1 ∙ t.count))
+    let count = last.1 ∙ t.are.count in
+    (last.0, a.1, sym (over-is limit all left r done t same) ∙ a.2, ap (λ n. n + 1) count)
 
 -- the blocks stop at the record that is refused
-stops : (limit : ℕ) (all left left' : List ℕ) (r new : Reading) (done : List Numbered) (f : RecordFault) → r.limit ≡ limit → (t : IsTold limit all left r done)
-    → GivesNext r (Some left) new (Some left') (Err f) → HasNumber new.number (Err f) → Stops (length t.blocks) t.rest (length all - limit) (others r.number t.later) (Broken f)
+stops : (limit : ℕ) (all left left' : List ℕ) (r new : Reading) (done : List Numbered)
+    (f : RecordFault) → r.limit ≡ limit → (t : IsTold limit all left r done)
+    → GivesNext r (Some left) new (Some left') (Err f) → HasNumber new.number (Err f)
+    → Stops (length t.are.blocks) t.are.rest (length all - limit) (others r.number t.are.later)
+    (Broken f)
 stops limit all left left' r new done (Short n) same t given number =
-    let a = given.1 t.later t.rest t.ahead in
+    let a = given.1 t.are.later t.are.rest t.are.ahead in
     let last = a.0 in
-    (last.0, a.1, sym (over-is limit all left r done t same) ∙ a.3, number ∙ ap (λ n. n + 1) (last.1 ∙ t.count))
+    let count = last.1 ∙ t.are.count in
+    (last.0, a.1, sym (over-is limit all left r done t same) ∙ a.3, number ∙ ap (λ n. n + 1) count)
 stops limit all left left' r new done (BadType n) same t given number =
-    let a = given.1 t.later t.rest t.ahead in
+    let a = given.1 t.are.later t.are.rest t.are.ahead in
     let next = a.2 in
     (a.0, others new.number a.1, next.0 ∙ ap (λ k. (k, a.0) ∷ others new.number a.1) (sym number), subst (λ k. fault_of k a.0 ≡ Some (BadType n)) (sym number) a.3)
 stops limit all left left' r new done (BadColumn n column) same t given number =
-    let a = given.1 t.later t.rest t.ahead in
+    let a = given.1 t.are.later t.are.rest t.are.ahead in
     let next = a.2 in
     (a.0, others new.number a.1, next.0 ∙ ap (λ k. (k, a.0) ∷ others new.number a.1) (sym number), subst (λ k. fault_of k a.0 ≡ Some (BadColumn n column)) (sym number) a.3)
 stops limit all left left' r new done (ReadFault n) same t given number =
-    let a = given.1 t.later t.rest t.ahead in
-    let count = t.count in
+    let a = given.1 t.are.later t.are.rest t.are.ahead in
+    let count = t.are.count in
     let more = a.2 in
     omega (arith, count, more, number)
 stops limit all left left' r new done (ReaderNeverEnds n) same t given number =
-    let a = given.1 t.later t.rest t.ahead in
+    let a = given.1 t.are.later t.are.rest t.are.ahead in
     let last = a.0 in
-    (last.0, subst (λ k. 0 < k) (over-is limit all left r done t same) a.1, number ∙ ap (λ n. n + 1) (last.1 ∙ t.count))
+    let more = subst (λ k. 0 < k) (over-is limit all left r done t same) a.1 in
+    (last.0, more, number ∙ ap (λ n. n + 1) (last.1 ∙ t.are.count))
 
 pub told-fault : (limit : ℕ) (told left left' : Option (List ℕ)) (r new : Reading) (g : DataSetReader) (earlier : List Record) (done : List Numbered) (f : RecordFault) → r.limit ≡ limit
     → IsSoFar g earlier done → Told limit told left r done → GivesNext r left new left' (Err f) → HasNumber new.number (Err f) → IsReadOf limit told (Err (Read f))
@@ -269,15 +253,16 @@ told-refused limit (Some all) None left' r new g earlier done x refusal so_far t
 told-refused limit (Some all) (Some left) None r new g earlier done x refusal so_far t given is valid = absurd given
 told-refused limit (Some all) (Some left) (Some left') r new g earlier done x refusal so_far t given is valid =
     let after = step limit all left left' r new done x t given in
+    let left = others new.number after.are.later in
     inr (record {
       records = done ++ x ∷ [];
       first = record {
-        blocks = after.blocks;
-        rest = after.rest;
-        framed = after.framed;
-        begins = subst (λ bs. Begins bs (done ++ x ∷ [])) (sym after.split)
-            (subst (λ rs. Begins (after.before ++ others new.number after.later) rs) (append-nil (done ++ x ∷ []))
-            (begins-append after.before (others new.number after.later) (done ++ x ∷ []) [] after.spelled tt));
+        blocks = after.are.blocks;
+        rest = after.are.rest;
+        framed = after.are.framed;
+        begins = subst (λ bs. Begins bs (done ++ x ∷ [])) (sym after.are.split)
+            (subst (λ rs. Begins (after.before ++ left) rs) (append-nil (done ++ x ∷ []))
+            (begins-append after.before left (done ++ x ∷ []) [] after.spelled tt));
       };
       is = λ later ending. refused-outcome g earlier done later ending x refusal so_far is;
     })
@@ -300,13 +285,12 @@ step-refused limit told left left' r new g earlier done x (Refused n refusal) so
 pub came-in : (limit : ℕ) (told left left' : Option (List ℕ)) (start now n : ℕ) (r new : Reading) (done : List Numbered) (a : Answer) → n ≡ new.came → Told limit told left r done
     → GivesNext r left new left' a → CountGoesOn told left' start now 0 new.came → HaveCome told left' start now n
 came-in limit None left None start now n r new done a is t given counts =
-    let wrapped : (now + 0) % 2 ^ 128 ≡ (start + new.came) % 2 ^ 128 = counts in
-    let same : now + 0 ≡ now = omega arith in
-    ap (λ k. k % 2 ^ 128) (sym same) ∙ wrapped ∙ ap (λ k. (start + k) % 2 ^ 128) (sym is)
+    counted-bytes start now n new.came is counts
 came-in limit None left (Some y) start now n r new done a is t given counts = counts
 came-in limit (Some all) None left' start now n r new done a is t given counts = absurd t
 came-in limit (Some all) (Some left) None start now n r new done a is t given counts = given
-came-in limit (Some all) (Some left) (Some left') start now n r new done a is t given counts = ap (λ k. k + length left') is ∙ given.0 ∙ t.came
+came-in limit (Some all) (Some left) (Some left') start now n r new done a is t given counts =
+    ap (λ k. k + length left') is ∙ given.0 ∙ t.are.came
 
 -- a reading that is refused as 14
 pub ended-beyond : (limit : ℕ) (told left left' : Option (List ℕ)) (start now : ℕ) (r new : Reading) (done : List Numbered) (f : RecordFault) → new.limit ≡ limit → Told limit told left r done
@@ -362,20 +346,21 @@ all-came : (limit : ℕ) (all left left' : List ℕ) (r new : Reading) (g : Data
     → Fetches false 0 [] (Some all) new.number new.held (Some left') → n ≡ new.number + 1
     → length new.held < 200 → FailsAfter (Some all) (Some left') (Read (ReadFault n))
 all-came limit all left left' r new g earlier done n so_far t given more fetched is few =
-    let a = given.1 t.later t.rest t.ahead in
+    let a = given.1 t.are.later t.are.rest t.are.ahead in
     let came = fetched.0 in
     let blocks = fetched.1 in
     let over = length all - limit in
     let framed = takes_all false came blocks new.held fetched.4 few in
-    let within : length blocks ≤ length t.blocks = omega (arith, fetched.3, a.2, t.count) in
+    let within : length blocks ≤ length t.are.blocks = omega (arith, fetched.3, a.2, t.are.count) in
     let rest =
-    first-blocks over false came left' blocks new.held t.blocks t.rest fetched.4
-    (subst (λ (bs : List ℕ). Frames over false bs t.blocks t.rest) fetched.2 t.framed) within in
+    first-blocks over false came left' blocks new.held t.are.blocks t.are.rest fetched.4
+    (subst (λ (bs : List ℕ). Frames over false bs t.are.blocks t.are.rest) fetched.2 t.are.framed)
+    within in
     let number : 0 + length blocks ≡ new.number = omega (arith, fetched.3) in
     let split : others 0 blocks ++ others (0 + length blocks) rest.0 ≡ t.before ++ others new.number a.0 =
     sym (others-append 0 blocks rest.0)
     ∙ ap (others 0) (sym rest.1)
-    ∙ t.split
+    ∙ t.are.split
     ∙ ap (λ (bs : List (ℕ × List ℕ)). t.before ++ bs) a.1 in
     let same =
     part-once new.number (others 0 blocks) (others (0 + length blocks) rest.0) t.before

@@ -1,0 +1,65 @@
+-- Between two calls of a reading the blocks so far are the first ones of the bytes, and the others
+-- are ahead.
+use Rattle.std.proofs.Common.{◌≡◌, ℕ, ◌+◌, ◌-◌, ◌%◌, ◌^◌, false, List, [], ◌∷◌, ◌++◌, length, None, refl, sym, ap, subst, ◌∙◌, append_assoc, arith}
+use Rattle.ssim_records.specs.Blocks.{CountGoesOn}
+use Rattle.ssim_records.specs.Frames.{Frames, FramesExist, others}
+use Rattle.ssim_records.specs.Reading as reading
+use Rattle.ssim_records.specs.Reading.{IsAhead, Reading}
+use Rattle.ssim_base.specs.Reading.{AreBlocks, HaveCome}
+use Rattle.ssim_base.specs.internal.DataSetReader.{unread}
+
+-- those before, and the others
+pub record AreAhead (limit : ℕ) (all left : List ℕ) (r : Reading) (before : List (ℕ × List ℕ))
+    : Type 0 where
+  pub blocks : List (List ℕ)
+  pub later : List (List ℕ)
+  pub rest : List ℕ
+  pub framed : AreBlocks limit all blocks rest
+  pub ahead : IsAhead r left later rest
+  pub came : r.came + length left ≡ length all
+  pub count : r.number + length later ≡ length blocks
+  pub split : others 0 blocks ≡ before ++ others r.number later
+
+-- all are ahead
+pub all-ahead : (limit : ℕ) (all : List ℕ) → FramesExist → AreAhead limit all all (unread limit) []
+all-ahead limit all exist =
+    let e = exist (length all - limit) false all in
+    let over : length all - limit ≡ (0 + length all) - limit = omega arith in
+    record {
+      blocks = e.0;
+      later = e.0;
+      rest = e.1.0;
+      framed = e.1.1;
+      ahead = subst (λ n. Frames n false all e.0 e.1.0) over e.1.1;
+      came = omega arith;
+      count = omega arith;
+      split = refl;
+    }
+
+-- the first of those ahead was read
+pub rest-ahead : (limit : ℕ) (all left left' : List ℕ) (r new : Reading)
+    (before : List (ℕ × List ℕ)) (block : List ℕ) (later : List (List ℕ))
+    → (t : AreAhead limit all left r before)
+    → new.came + length left' ≡ r.came + length left → reading.IsNext r t.later new block later
+    → IsAhead new left' later t.rest
+    → AreAhead limit all left' new (before ++ (new.number, block) ∷ [])
+rest-ahead limit all left left' r new before block later t came next ahead = record {
+  blocks = t.blocks;
+  later = later;
+  rest = t.rest;
+  framed = t.framed;
+  ahead = ahead;
+  came = came ∙ t.came;
+  count = next.1 ∙ t.count;
+  split = t.split
+      ∙ ap (λ bs. before ++ bs) next.0
+      ∙ sym (append_assoc before ((new.number, block) ∷ []) (others new.number later));
+}
+
+-- a reader that does not report its bytes counted them
+pub counted-bytes : (start now n came : ℕ) → n ≡ came → CountGoesOn None None start now 0 came
+    → HaveCome None None start now n
+counted-bytes start now n came is counts =
+    let wrapped : (now + 0) % 2 ^ 128 ≡ (start + came) % 2 ^ 128 = counts in
+    let same : now + 0 ≡ now = omega arith in
+    ap (λ k. k % 2 ^ 128) (sym same) ∙ wrapped ∙ ap (λ k. (start + k) % 2 ^ 128) (sym is)
