@@ -237,14 +237,32 @@ if_err (Err e) f p = f p
 
 -- ---- lines of a block
 
-pub pushed : (xs ys : List ℕ) (a k n : ℕ) → k ≡ 200 → n ≡ a + 200 → length ys ≡ 200 → a + 201 ≤ length xs
+written_at : (xs ys : List ℕ) (a k n : ℕ) → k ≡ 200 → n ≡ a + 200 → length ys ≡ 200
+    → a + 201 ≤ length xs
     → take (n + 1) (set (put_mid a k xs ys) n 10) ≡ take a xs ++ (ys ++ 10 ∷ [])
-pushed xs ys a k n k-is n-is len room =
-    let front : take n (put_mid a k xs ys) ≡ take a xs ++ ys = take-put_mid a k xs ys n (omega arith) (omega arith) in
-    let behind : drop n (put_mid a k xs ys) ≡ drop n xs = drop-put_mid a k xs ys n (omega arith) (omega arith) (omega arith) in
-    let whole = ap length (sym (take-append-drop n (put_mid a k xs ys)) ∙ ap (λ (bs : List ℕ). bs ++ drop n (put_mid a k xs ys)) front ∙ ap (λ (bs : List ℕ). (take a xs ++ ys) ++ bs) behind) in
+written_at xs ys a k n k-is n-is len room =
+    let new = put_mid a k xs ys in
+    let front : take n (put_mid a k xs ys) ≡ take a xs ++ ys =
+    take-put_mid a k xs ys n (omega arith) (omega arith) in
+    let behind : drop n (put_mid a k xs ys) ≡ drop n xs =
+    drop-put_mid a k xs ys n (omega arith) (omega arith) (omega arith) in
+    let whole = ap length (sym (take-append-drop n new)
+    ∙ ap (λ (bs : List ℕ). bs ++ drop n new) front
+    ∙ ap (λ (bs : List ℕ). (take a xs ++ ys) ++ bs) behind) in
     let long : n < length (put_mid a k xs ys) = grind (arith, common_steps, whole) in
-    take_more_set (put_mid a k xs ys) n 10 long ∙ ap (λ (bs : List ℕ). bs ++ 10 ∷ []) front ∙ append_assoc (take a xs) ys (10 ∷ [])
+    take_more_set new n 10 long
+    ∙ ap (λ (bs : List ℕ). bs ++ 10 ∷ []) front
+    ∙ append_assoc (take a xs) ys (10 ∷ [])
+
+-- a ones 200 bytes and LF are held after those that were
+pub pushed : {held one : List ℕ} (xs ys : List ℕ) (a : ℕ) → take a xs ≡ held → ys ≡ one
+    → length ys ≡ 200 → a + 201 ≤ length xs
+    → take (a + 200 + 1) (set (put_mid a (a + 200 - a) xs ys) (a + 200) 10)
+    ≡ held ++ (one ++ 10 ∷ [])
+pushed {held} {one} xs ys a view is len room =
+    written_at xs ys a (a + 200 - a) (a + 200) (omega arith) refl len room
+    ∙ ap (λ (bs : List ℕ). bs ++ (ys ++ 10 ∷ [])) view
+    ∙ ap (λ (bs : List ℕ). held ++ (bs ++ 10 ∷ [])) is
 
 pub fill_more : (n : ℕ) → 0 < n → flat_map line (replicate n fill) ≡ line fill ++ flat_map line (replicate (n - 1) fill)
 fill_more zero some = absurd (omega arith)

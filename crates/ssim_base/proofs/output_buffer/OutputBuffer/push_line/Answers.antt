@@ -1,5 +1,5 @@
 -- The record is copied after what is held, and then LF.
-use Rattle.std.proofs.Common.{◌≡◌, ◌≤◌, ◌+◌, ◌-◌, ℕ, List, [], ◌∷◌, ◌++◌, length, refl, ap, ◌∙◌, arith}
+use Rattle.std.proofs.Common.{◌≡◌, ◌≤◌, ◌+◌, ap, length, ◌∙◌, arith}
 use Rattle.std.proofs.lemmas.Grind.{common_steps}
 use Rattle.ssim_base.proofs.SinkLemmas.{pushed}
 use Rattle.ssim_base.proofs.output_buffer.OutputBuffer.push_line.Goals as goal
@@ -10,7 +10,6 @@ returns c =
     let copied = c.copy_from_slice.new.self in
     let after = c.copy_from_slice.ensures.after in
     let len : length copied ≡ 200 = ap length after ∙ c.told-bytes in
-    let room : end + 201 ≤ length c.self.inside.bytes = grind (arith, common_steps, c.requires, c.self.told, c.self.invariant, ap length c.self.view_is) in
-    pushed c.self.inside.bytes copied end (end + 200 - end) (end + 200) (omega arith) refl len room
-    ∙ ap (λ (bs : List ℕ). bs ++ (copied ++ 10 ∷ [])) c.self.view_is
-    ∙ ap (λ (bs : List ℕ). c.args.self.now ++ (bs ++ 10 ∷ [])) after
+    let room : end + 201 ≤ length c.self.inside.bytes =
+    grind (arith, common_steps, c.requires, c.self.told, c.self.invariant, ap length c.self.view_is) in
+    pushed c.self.inside.bytes copied end c.self.view_is after len room

@@ -1,5 +1,5 @@
 -- The record is written after what is held, and then LF.
-use Rattle.std.proofs.Common.{◌≡◌, ◌≤◌, ◌+◌, ◌-◌, ℕ, List, [], ◌∷◌, ◌++◌, length, refl, ap, ◌∙◌, arith}
+use Rattle.std.proofs.Common.{◌≡◌, ◌≤◌, ◌+◌, ap, length, arith}
 use Rattle.std.proofs.lemmas.Grind.{common_steps}
 use Rattle.ssim_base.proofs.SinkLemmas.{pushed}
 use Rattle.ssim_base.proofs.output_buffer.OutputBuffer.push_segment.Goals as goal
@@ -7,9 +7,7 @@ use Rattle.ssim_base.proofs.output_buffer.OutputBuffer.push_segment.Goals as goa
 pub returns-clause-value : goal.returns-clause-value
 returns-clause-value c =
     let end = c.self.inside.end in
-    let written = c.write_segment.new.out in
-    let len : length written ≡ 200 = omega (arith, c.write_segment.auto.out) in
-    let room : end + 201 ≤ length c.self.inside.bytes = grind (arith, common_steps, c.requires.room, c.self.told, c.self.invariant, ap length c.self.view_is) in
-    pushed c.self.inside.bytes written end (end + 200 - end) (end + 200) (omega arith) refl len room
-    ∙ ap (λ (bs : List ℕ). bs ++ (written ++ 10 ∷ [])) c.self.view_is
-    ∙ ap (λ (bs : List ℕ). c.args.self.now ++ (bs ++ 10 ∷ [])) c.write_segment.ensures.value
+    let len : length c.write_segment.new.out ≡ 200 = omega (arith, c.write_segment.auto.out) in
+    let room : end + 201 ≤ length c.self.inside.bytes =
+    grind (arith, common_steps, c.requires.room, c.self.told, c.self.invariant, ap length c.self.view_is) in
+    pushed c.self.inside.bytes c.write_segment.new.out end c.self.view_is c.write_segment.ensures.value len room
