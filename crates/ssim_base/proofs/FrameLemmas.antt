@@ -1,5 +1,5 @@
 -- A base has its frame around its records: header and carrier first, the trailer last.
-use Rattle.std.proofs.Common.{◌≡◌, suc, ◌+◌, ◌-◌, List, [], ◌∷◌, ◌++◌, length, map, slice_index_or, refl, sym, ap, subst, ◌∙◌, arith}
+use Rattle.std.proofs.Common.{◌≡◌, ◌≤◌, ℕ, suc, ◌+◌, ◌-◌, List, [], ◌∷◌, ◌++◌, length, map, slice_index_or, refl, sym, ap, subst, ◌∙◌, arith}
 use Rattle.std.proofs.lemmas.List.{length-append}
 use Rattle.std.proofs.lemmas.List.Elements.{All-from_recursion}
 use Rattle.std.specs.List.{All, AllByRecursion as Each}
@@ -23,8 +23,14 @@ exportable rs w = bases_export w.ending w.records rs w.notes w.spelt w.read
 pub framed : (rs : List Record) → WasRead rs → (frame : Frame) × HasFrame frame rs
 framed rs w = let e = exportable rs w in (e.frame, e.has_frame)
 
-pub length-framed : (frame : Frame) (rs : List Record) → (f : HasFrame frame rs) → length rs ≡ suc (suc (length f.0 + 1))
+length-framed : (frame : Frame) (rs : List Record) → (f : HasFrame frame rs) → length rs ≡ suc (suc (length f.0 + 1))
 length-framed frame rs f = ap length f.1 ∙ ap (λ n. suc (suc n)) (length-append f.0 (Trailer frame.trailer ∷ []))
+
+-- these are three records at least
+pub three-read : (rs : List Record) → WasRead rs → 3 ≤ length rs
+three-read rs w =
+    let e = exportable rs w in
+    omega (arith, length-framed e.frame rs e.has_frame)
 
 pub first-is : (frame : Frame) (rs : List Record) (d : Record) → HasFrame frame rs → slice_index_or rs 0 d ≡ Header frame.header
 first-is frame rs d f = ap (λ xs. slice_index_or xs 0 d) f.1
@@ -43,8 +49,14 @@ last-is frame rs d f =
     ap (λ n. slice_index_or rs n d) place ∙ ap (λ xs. slice_index_or xs (suc (suc (length f.0))) d) f.1 ∙ at-end f.0 (Trailer frame.trailer) d
 
 -- of a base the first, the second and the last record are those of its frame
-pub are-of-frame : (frame : Frame) (rs : List Record) (a b d : Record) → HasFrame frame rs → a ≡ slice_index_or rs 0 a → b ≡ slice_index_or rs 1 b → d ≡ slice_index_or rs (length rs - 1) d → AreOfFrame frame a b d
-are-of-frame frame rs a b d f first second last = (first ∙ first-is frame rs a f, second ∙ second-is frame rs b f, last ∙ last-is frame rs d f)
+pub are-of-frame : (frame : Frame) (rs : List Record) (number : ℕ) (a b d : Record)
+    → HasFrame frame rs → number ≡ length rs → a ≡ slice_index_or rs 0 a → b ≡ slice_index_or rs 1 b
+    → d ≡ slice_index_or rs (number - 1) d → AreOfFrame frame a b d
+are-of-frame frame rs number a b d f is first second last = (
+  first ∙ first-is frame rs a f,
+  second ∙ second-is frame rs b f,
+  last ∙ ap (λ n. slice_index_or rs (n - 1) d) is ∙ last-is frame rs d f,
+)
 
 pub of-frame : (frame : Frame) (a b d : Record) (h : HeaderFields) (c : CarrierFields) (t : TrailerFields) → AreOfFrame frame a b d → a ≡ Header h → b ≡ Carrier c → d ≡ Trailer t → frame_from h c t ≡ frame
 of-frame frame a b d h c t are header carrier trailer =
