@@ -1,7 +1,7 @@
 -- From record to record, by the lemmas on what was read so far; each result that ends the reading
 -- is the outcome of the bytes.
 use Rattle.std.proofs.Common.{rules, ◌≡◌, ℕ, ◌+◌, Some, None, Ok, Err, false, [], ◌∷◌, ◌++◌, refl, sym, ap, subst, ◌∙◌, arith}
-use Rattle.ssim_records.specs.Blocks.{CountGoesOn, Fetches}
+use Rattle.ssim_records.specs.Blocks.{CountGoesOn, CountsOn, Fetches}
 use Rattle.ssim_records.specs.Reading.{Answer, Counts, FailsAs, GivesNext, HasNumber, HoldsFew, NeverEnds, Reading, ending_of, given}
 use Rattle.ssim_records.proofs.Framing.{counts_none, counts_twice, fetches_first, fetches_on}
 use Rattle.ssim_records.specs.declared.record.Record.{Record}
@@ -11,14 +11,18 @@ use Rattle.ssim_base.specs.internal.Reading.{AreGivenOf}
 use Rattle.ssim_base.specs.declared.fault.BaseFault.TheVariants.{Memory}
 use Rattle.ssim_base.proofs.ReadingLemmas.{Numbered, Told, came-in, ended-beyond, fails-after, fault-fails, never-refused, never-fails, refused-fails, step-refused, while-open, nothing, one-more, told-end, told-fault, told-first, told-step}
 use Rattle.ssim_base.proofs.RestLemmas.{after-fault, after-refused}
+use Rattle.ssim_base.proofs.data_set.reader.read_records.Given as context
+use Rattle.ssim_base.proofs.data_set.reader.read_records.Goals.{After-next_into}
 use Rattle.ssim_base.proofs.data_set.reader.read_records.Goals as goal
 
 pub loop-number-init : goal.loop-number-init
 loop-number-init g c =
     let fresh = c.requires.unread in
     let limit = c.args.blocks.now.limit in
-    let left = (g.R.Source.state c.args.reader.now).left in
+    let before = g.R.Source.state c.args.reader.now in
+    let left = before.left in
     let number : c.args.blocks.now.number ≡ 0 = ap (λ (r : Reading). r.number) fresh in
+    let new = c.new-records_read.ensures in
     record {
       limit_is = refl;
       open' = ap (λ (r : Reading). r.ended) fresh;
@@ -26,25 +30,90 @@ loop-number-init g c =
       earlier = [];
       done = [];
       has = c.requires.empty;
-      so_far = nothing c.new-records_read.result c.new-records_read.ensures.kept c.new-records_read.ensures.notes c.new-records_read.ensures.previous;
-      told = subst (λ (r : Reading). Told limit left left r []) (sym fresh) (told-first limit left c.frames_are_one.ensures.exist);
-      fetched = subst (λ (r : Reading). Fetches false 0 [] left r.number r.held left) (sym fresh) (fetches_first false 0 [] left);
-      counts = subst (λ (r : Reading). CountGoesOn left left (g.R.Source.state c.args.reader.now).came (g.R.Source.state c.args.reader.now).came 0 r.came) (sym fresh)
-          (counts_none left (g.R.Source.state c.args.reader.now).came 0);
+      so_far = nothing c.new-records_read.result new.kept new.notes new.previous;
+      told = subst (λ (r : Reading). Told limit left left r []) (sym fresh)
+          (told-first limit left c.frames_are_one.ensures.exist);
+      fetched =
+          subst (λ (r : Reading). Fetches false 0 [] left r.number r.held left) (sym fresh)
+          (fetches_first false 0 [] left);
+      counts =
+          subst (λ (r : Reading). CountGoesOn left left before.came before.came 0 r.came) (sym fresh)
+          (counts_none left before.came 0);
       no_failure = refl;
     }
 
+-- ---- what a call for the next record says
+
+-- of what it returned
+record Says (g : context.Over) (c : After-next_into g) (a : Answer) : Type 0 where
+  gives : GivesNext c.loop-number.blocks (g.R.Source.state c.loop-number.reader).left
+      c.next_into.new.self (g.R.Source.state c.next_into.new.reader).left a
+  failure : FailsAs (g.R.Source.state c.loop-number.reader).failures
+      (g.R.Source.state c.next_into.new.reader).failures a
+  number : HasNumber c.next_into.new.self.number a
+  counts : Counts c.loop-number.blocks c.next_into.new.self a
+  few : HoldsFew c.next_into.new.self.held a
+  over : NeverEnds c.next_into.new.self a
+
+says : (g : context.Over) (c : After-next_into g) (a : Answer)
+    → given c.next_into.new.into c.next_into.result ≡ a → Says g c a
+says g c a is =
+    let open' = c.loop-number.invariant.open' in
+    subst (Says g c) is (record {
+      gives = while-open _ open' c.next_into.ensures.record;
+      failure = while-open _ open' c.next_into.ensures.fault;
+      number = while-open _ open' c.next_into.ensures.number;
+      counts = while-open _ open' c.next_into.ensures.counts;
+      few = while-open _ open' c.next_into.ensures.few_left;
+      over = while-open _ open' c.next_into.ensures.never_ends;
+    })
+
+-- of all bytes that were fetched
+fetched : (g : context.Over) (c : After-next_into g)
+    → Fetches false 0 [] (g.R.Source.state c.args.reader.now).left c.next_into.new.self.number
+    c.next_into.new.self.held (g.R.Source.state c.next_into.new.reader).left
+fetched g c =
+    let old = c.loop-number.blocks in
+    let new = c.next_into.new.self in
+    let i = c.loop-number.invariant in
+    fetches_on 0 old.number new.number old.number new.number [] old.held new.held _ _ _ i.fetched
+    (while-open old.ended i.open' c.next_into.ensures.fetched) (omega arith)
+
+-- and of how many came
+counts : (g : context.Over) (c : After-next_into g)
+    → CountsOn (g.R.Source.state c.args.reader.now) (g.R.Source.state c.next_into.new.reader) 0
+    c.next_into.new.self.came
+counts g c =
+    let i = c.loop-number.invariant in
+    counts_twice _ _ _ _ _ _ _ _ _ i.counts (while-open _ i.open' c.next_into.ensures.count)
+
+came : (g : context.Over) (c : After-next_into g)
+    → Came (g.R.Source.state c.args.reader.now) (g.R.Source.state c.next_into.new.reader)
+    c.next_into.new.self.came
+came g c =
+    let i = c.loop-number.invariant in
+    let old = c.loop-number.blocks in
+    let new = c.next_into.new.self in
+    let before = g.R.Source.state c.args.reader.now in
+    let mid = g.R.Source.state c.loop-number.reader in
+    let after = g.R.Source.state c.next_into.new.reader in
+    came-in c.args.blocks.now.limit before.left mid.left after.left before.came after.came new.came
+    old new i.done _ refl i.told (while-open old.ended i.open' c.next_into.ensures.record)
+    (counts g c)
+
+-- ---- a record was read
+
 pub loop-number-preserved : goal.loop-number-preserved
 loop-number-preserved g c =
+    let at = (goal.at.loop-number-preserved g c).After-next_into in
     let i = c.loop-number.invariant in
     let old = c.loop-number.blocks in
     let new = c.next_into.new.self in
     let x : Numbered = (c.in-Ok.number, c.in-Some.record) in
-    let answer : given c.next_into.new.into c.next_into.result ≡ Ok (Some x) = rw (c.in-Ok.is, c.in-Some.is) refl in
-    let gives = subst (λ (a : Answer). GivesNext old (g.R.Source.state c.loop-number.reader).left new (g.R.Source.state c.next_into.new.reader).left a) answer (while-open old.ended i.open' c.next_into.ensures.record) in
-    let counts = subst (λ (a : Answer). Counts old new a) answer (while-open old.ended i.open' c.next_into.ensures.counts) in
-    let fault = subst (λ (a : Answer). FailsAs (g.R.Source.state c.loop-number.reader).failures (g.R.Source.state c.next_into.new.reader).failures a) answer (while-open old.ended i.open' c.next_into.ensures.fault) in
-    let more = counts.1 in
+    let answer : given c.next_into.new.into c.next_into.result ≡ Ok (Some x) =
+    rw (c.in-Ok.is, c.in-Some.is) refl in
+    let next = says g at (Ok (Some x)) answer in
+    let more = next.counts.1 in
     let same = c.next_into.ensures.limit in
     let limit = i.limit_is in
     let taken = c.in_ok-take-in-Some.ensures in
@@ -59,119 +128,143 @@ loop-number-preserved g c =
           accepted.closed_is (c.in_ok-push_record-in-Some.ensures i.earlier i.has);
       so_far = one-more c.loop-number.records_read c.take.new.self i.earlier i.done x c.take.new.one
           i.so_far accepted taken.noted taken.previous taken.is_record;
-      told = told-step c.args.blocks.now.limit (g.R.Source.state c.args.reader.now).left (g.R.Source.state c.loop-number.reader).left (g.R.Source.state c.next_into.new.reader).left old new i.done x i.told gives;
-      fetched = fetches_on 0 old.number new.number old.number new.number [] old.held new.held _ _ _ i.fetched (while-open old.ended i.open' c.next_into.ensures.fetched) (omega arith);
-      counts = counts_twice _ _ _ _ _ _ _ _ _ i.counts (while-open old.ended i.open' c.next_into.ensures.count);
-      no_failure = fault ∙ i.no_failure;
+      told =
+          told-step c.args.blocks.now.limit (g.R.Source.state c.args.reader.now).left
+          (g.R.Source.state c.loop-number.reader).left
+          (g.R.Source.state c.next_into.new.reader).left old new i.done x i.told next.gives;
+      fetched = fetched g at;
+      counts = counts g at;
+      no_failure = next.failure ∙ i.no_failure;
     }
+
+-- ---- a record is refused
 
 pub returns-in_err-take-in-Some-clause-err : goal.returns-in_err-take-in-Some-clause-err
 returns-in_err-take-in-Some-clause-err g c =
+    let at = (goal.at.returns-in_err-take-in-Some-clause-err g c).After-next_into in
     let i = c.loop-number.invariant in
-    let old = c.loop-number.blocks in
-    let new = c.next_into.new.self in
     let x : Numbered = (c.in-Ok.number, c.in-Some.record) in
-    let answer : given c.next_into.new.into c.next_into.result ≡ Ok (Some x) = rw (c.in-Ok.is, c.in-Some.is) refl in
-    let gives = subst (λ (a : Answer). GivesNext old (g.R.Source.state c.loop-number.reader).left new (g.R.Source.state c.next_into.new.reader).left a) answer (while-open old.ended i.open' c.next_into.ensures.record) in
-    let refusal : c.from_residual.result ≡ Err c.in_err-take-in-Some.field-0.0 = search rules in
-    rw refusal (step-refused c.args.blocks.now.limit (g.R.Source.state c.args.reader.now).left (g.R.Source.state c.loop-number.reader).left (g.R.Source.state c.next_into.new.reader).left old new c.loop-number.records_read i.earlier i.done x
-    c.in_err-take-in-Some.field-0.0 i.so_far i.told gives (c.in_err-take-in-Some.ensures.err i.earlier i.so_far.is_kept) c.in_err-take-in-Some.ensures.is_record)
-
-pub returns-in-None-clause-ok : goal.returns-in-None-clause-ok
-returns-in-None-clause-ok g c =
-    let i = c.loop-number.invariant in
-    let old = c.loop-number.blocks in
-    let new = c.next_into.new.self in
-    let answer : given c.next_into.new.into c.next_into.result ≡ Ok None = rw (c.in-Ok.is, c.in-None.is) refl in
-    let gives = subst (λ (a : Answer). GivesNext old (g.R.Source.state c.loop-number.reader).left new (g.R.Source.state c.next_into.new.reader).left a) answer (while-open old.ended i.open' c.next_into.ensures.record) in
-    record {
-      earlier = i.earlier;
-      done = i.done;
-      has = i.has;
-      so_far = i.so_far;
-      given = subst (λ (n : ℕ). AreGivenOf c.args.blocks.now.limit (g.R.Source.state c.args.reader.now).left i.done (Done (n + 1))) (sym c.number.ensures.value)
-          (told-end c.args.blocks.now.limit (g.R.Source.state c.args.reader.now).left (g.R.Source.state c.loop-number.reader).left (g.R.Source.state c.next_into.new.reader).left old new i.done i.limit_is i.told gives);
-    }
-
-pub returns-in-Err-clause-err : goal.returns-in-Err-clause-err
-returns-in-Err-clause-err g c =
-    let i = c.loop-number.invariant in
-    let old = c.loop-number.blocks in
-    let new = c.next_into.new.self in
-    let answer : given c.next_into.new.into c.next_into.result ≡ Err c.in-Err.fault = rw c.in-Err.is refl in
-    let gives = subst (λ (a : Answer). GivesNext old (g.R.Source.state c.loop-number.reader).left new (g.R.Source.state c.next_into.new.reader).left a) answer (while-open old.ended i.open' c.next_into.ensures.record) in
-    let number = subst (λ (a : Answer). HasNumber new.number a) answer (while-open old.ended i.open' c.next_into.ensures.number) in
-    told-fault c.args.blocks.now.limit (g.R.Source.state c.args.reader.now).left (g.R.Source.state c.loop-number.reader).left (g.R.Source.state c.next_into.new.reader).left old new c.loop-number.records_read i.earlier i.done
-    c.in-Err.fault i.limit_is i.so_far i.told gives number
+    let next = says g at (Ok (Some x)) (rw (c.in-Ok.is, c.in-Some.is) refl) in
+    let fault = c.in_err-take-in-Some.field-0.0 in
+    let refusal : c.from_residual.result ≡ Err fault = search rules in
+    rw refusal (step-refused c.args.blocks.now.limit (g.R.Source.state c.args.reader.now).left
+    (g.R.Source.state c.loop-number.reader).left (g.R.Source.state c.next_into.new.reader).left
+    c.loop-number.blocks c.next_into.new.self c.loop-number.records_read i.earlier i.done x fault
+    i.so_far i.told next.gives (c.in_err-take-in-Some.ensures.err i.earlier i.so_far.is_kept)
+    c.in_err-take-in-Some.ensures.is_record)
 
 pub returns-in_err-take-in-Some-clause-fetched : goal.returns-in_err-take-in-Some-clause-fetched
 returns-in_err-take-in-Some-clause-fetched g c =
-    let i = c.loop-number.invariant in
-    let old = c.loop-number.blocks in
-    let new = c.next_into.new.self in
     let refusal : c.from_residual.result ≡ Err c.in_err-take-in-Some.field-0.0 = search rules in
-    rw refusal (fetches_on 0 old.number new.number old.number new.number [] old.held new.held _ _ _
-    i.fetched (while-open old.ended i.open' c.next_into.ensures.fetched) (omega arith))
+    rw refusal
+    (fetched g (goal.at.returns-in_err-take-in-Some-clause-fetched g c).After-next_into)
 
-pub returns-in_err-push_record-in-Some-clause-fetched : goal.returns-in_err-push_record-in-Some-clause-fetched
-returns-in_err-push_record-in-Some-clause-fetched g c =
-    let i = c.loop-number.invariant in
-    let old = c.loop-number.blocks in
-    let new = c.next_into.new.self in
-    let refusal : c.from_residual-in_err-push_record-in-Some.result ≡ Err Memory = search rules in
-    rw refusal (fetches_on 0 old.number new.number old.number new.number [] old.held new.held _ _ _
-    i.fetched (while-open old.ended i.open' c.next_into.ensures.fetched) (omega arith))
-
-pub returns-in-Err-clause-fetched : goal.returns-in-Err-clause-fetched
-returns-in-Err-clause-fetched g c =
-    let i = c.loop-number.invariant in
-    let old = c.loop-number.blocks in
-    let new = c.next_into.new.self in
-    fetches_on 0 old.number new.number old.number new.number [] old.held new.held _ _ _ i.fetched
-    (while-open old.ended i.open' c.next_into.ensures.fetched) (omega arith)
+pub returns-in_err-take-in-Some-clause-came : goal.returns-in_err-take-in-Some-clause-came
+returns-in_err-take-in-Some-clause-came g c =
+    let refusal : c.from_residual.result ≡ Err c.in_err-take-in-Some.field-0.0 = search rules in
+    rw refusal (came g (goal.at.returns-in_err-take-in-Some-clause-came g c).After-next_into)
 
 pub returns-in_err-take-in-Some-clause-by_record : goal.returns-in_err-take-in-Some-clause-by_record
 returns-in_err-take-in-Some-clause-by_record g c =
+    let at = (goal.at.returns-in_err-take-in-Some-clause-by_record g c).After-next_into in
     let i = c.loop-number.invariant in
-    let old = c.loop-number.blocks in
     let before = g.R.Source.state c.args.reader.now in
-    let mid = g.R.Source.state c.loop-number.reader in
     let after = g.R.Source.state c.next_into.new.reader in
     let x : Numbered = (c.in-Ok.number, c.in-Some.record) in
+    let next = says g at (Ok (Some x)) (rw (c.in-Ok.is, c.in-Some.is) refl) in
     let fault = c.in_err-take-in-Some.field-0.0 in
-    let answer : given c.next_into.new.into c.next_into.result ≡ Ok (Some x) =
-    rw (c.in-Ok.is, c.in-Some.is) refl in
-    let failures =
-    subst (λ (a : Answer). FailsAs mid.failures after.failures a) answer
-    (while-open old.ended i.open' c.next_into.ensures.fault) in
     let refused = c.in_err-take-in-Some.ensures.err i.earlier i.so_far.is_kept in
     let refusal : c.from_residual.result ≡ Err fault = search rules in
     rw refusal (record {
       failure =
           refused-fails before.failures after.failures x.0 i.earlier x.1 fault refused
-          (failures ∙ i.no_failure);
+          (next.failure ∙ i.no_failure);
       fails_after = never-fails before.left after.left x.0 i.earlier x.1 fault refused;
       never_ends =
           never-refused c.args.blocks.now.limit (Came before after) x.0 i.earlier x.1 fault refused;
     })
 
+pub returns-in_err-take-in-Some-clause-next : goal.returns-in_err-take-in-Some-clause-next
+returns-in_err-take-in-Some-clause-next g c =
+    let at = (goal.at.returns-in_err-take-in-Some-clause-next g c).After-next_into in
+    let i = c.loop-number.invariant in
+    let x : Numbered = (c.in-Ok.number, c.in-Some.record) in
+    let next = says g at (Ok (Some x)) (rw (c.in-Ok.is, c.in-Some.is) refl) in
+    let fault = c.in_err-take-in-Some.field-0.0 in
+    let refusal : c.from_residual.result ≡ Err fault = search rules in
+    rw refusal (after-refused c.next_into.new.self.number x.0 i.earlier x.1 fault
+    (c.in_err-take-in-Some.ensures.err i.earlier i.so_far.is_kept) next.number)
+
+-- ---- memory runs out
+
+pub returns-in_err-push_record-in-Some-clause-fetched : goal.returns-in_err-push_record-in-Some-clause-fetched
+returns-in_err-push_record-in-Some-clause-fetched g c =
+    let at = (goal.at.returns-in_err-push_record-in-Some-clause-fetched g c).After-next_into in
+    let refusal : c.from_residual-in_err-push_record-in-Some.result ≡ Err Memory = search rules in
+    rw refusal (fetched g at)
+
 pub returns-in_err-push_record-in-Some-clause-by_record : goal.returns-in_err-push_record-in-Some-clause-by_record
 returns-in_err-push_record-in-Some-clause-by_record g c =
-    let i = c.loop-number.invariant in
-    let old = c.loop-number.blocks in
-    let mid = g.R.Source.state c.loop-number.reader in
-    let after = g.R.Source.state c.next_into.new.reader in
+    let at = (goal.at.returns-in_err-push_record-in-Some-clause-by_record g c).After-next_into in
     let x : Numbered = (c.in-Ok.number, c.in-Some.record) in
-    let answer : given c.next_into.new.into c.next_into.result ≡ Ok (Some x) =
-    rw (c.in-Ok.is, c.in-Some.is) refl in
-    let failures =
-    subst (λ (a : Answer). FailsAs mid.failures after.failures a) answer
-    (while-open old.ended i.open' c.next_into.ensures.fault) in
+    let next = says g at (Ok (Some x)) (rw (c.in-Ok.is, c.in-Some.is) refl) in
     let refusal : c.from_residual-in_err-push_record-in-Some.result ≡ Err Memory = search rules in
-    rw refusal (record { failure = failures ∙ i.no_failure; fails_after = tt; never_ends = tt })
+    rw refusal (record {
+      failure = next.failure ∙ c.loop-number.invariant.no_failure;
+      fails_after = tt;
+      never_ends = tt;
+    })
+
+-- ---- no record is left
+
+pub returns-in-None-clause-ok : goal.returns-in-None-clause-ok
+returns-in-None-clause-ok g c =
+    let at = (goal.at.returns-in-None-clause-ok g c).After-next_into in
+    let i = c.loop-number.invariant in
+    let limit = c.args.blocks.now.limit in
+    let left = (g.R.Source.state c.args.reader.now).left in
+    let next = says g at (Ok None) (rw (c.in-Ok.is, c.in-None.is) refl) in
+    record {
+      earlier = i.earlier;
+      done = i.done;
+      has = i.has;
+      so_far = i.so_far;
+      given =
+          subst (λ (n : ℕ). AreGivenOf limit left i.done (Done (n + 1))) (sym c.number.ensures.value)
+          (told-end limit left (g.R.Source.state c.loop-number.reader).left
+          (g.R.Source.state c.next_into.new.reader).left c.loop-number.blocks c.next_into.new.self
+          i.done i.limit_is i.told next.gives);
+    }
+
+pub overflow_add-result : goal.overflow_add-result
+overflow_add-result g c =
+    omega (arith, c.number.ensures.small, c.next_into.ensures.limit,
+    c.loop-number.invariant.limit_is, c.requires.limit)
+
+-- ---- the next record has a fault
+
+pub returns-in-Err-clause-err : goal.returns-in-Err-clause-err
+returns-in-Err-clause-err g c =
+    let at = (goal.at.returns-in-Err-clause-err g c).After-next_into in
+    let i = c.loop-number.invariant in
+    let fault = c.in-Err.fault in
+    let next = says g at (Err fault) (rw c.in-Err.is refl) in
+    told-fault c.args.blocks.now.limit (g.R.Source.state c.args.reader.now).left
+    (g.R.Source.state c.loop-number.reader).left (g.R.Source.state c.next_into.new.reader).left
+    c.loop-number.blocks c.next_into.new.self c.loop-number.records_read i.earlier i.done fault
+    i.limit_is i.so_far i.told next.gives next.number
+
+pub returns-in-Err-clause-fetched : goal.returns-in-Err-clause-fetched
+returns-in-Err-clause-fetched g c =
+    fetched g (goal.at.returns-in-Err-clause-fetched g c).After-next_into
+
+pub returns-in-Err-clause-came : goal.returns-in-Err-clause-came
+returns-in-Err-clause-came g c =
+    came g (goal.at.returns-in-Err-clause-came g c).After-next_into
 
 pub returns-in-Err-clause-by_record : goal.returns-in-Err-clause-by_record
 returns-in-Err-clause-by_record g c =
+    let at = (goal.at.returns-in-Err-clause-by_record g c).After-next_into in
     let i = c.loop-number.invariant in
     let old = c.loop-number.blocks in
     let new = c.next_into.new.self in
@@ -180,84 +273,22 @@ returns-in-Err-clause-by_record g c =
     let mid = g.R.Source.state c.loop-number.reader in
     let after = g.R.Source.state c.next_into.new.reader in
     let fault = c.in-Err.fault in
-    let answer : given c.next_into.new.into c.next_into.result ≡ Err fault = rw c.in-Err.is refl in
-    let gives =
-    subst (λ (a : Answer). GivesNext old mid.left new after.left a) answer
-    (while-open old.ended i.open' c.next_into.ensures.record) in
-    let failures =
-    subst (λ (a : Answer). FailsAs mid.failures after.failures a) answer
-    (while-open old.ended i.open' c.next_into.ensures.fault) in
-    let number =
-    subst (λ (a : Answer). HasNumber new.number a) answer
-    (while-open old.ended i.open' c.next_into.ensures.number) in
-    let few =
-    subst (λ (a : Answer). HoldsFew new.held a) answer
-    (while-open old.ended i.open' c.next_into.ensures.few_left) in
-    let over =
-    subst (λ (a : Answer). NeverEnds new a) answer
-    (while-open old.ended i.open' c.next_into.ensures.never_ends) in
-    let more = while-open old.ended i.open' c.next_into.ensures.fetched in
-    let fetched =
-    fetches_on 0 old.number new.number old.number new.number [] old.held new.held _ _ _ i.fetched
-    more (omega arith) in
-    let counts =
-    counts_twice _ _ _ _ _ _ _ _ _ i.counts
-    (while-open old.ended i.open' c.next_into.ensures.count) in
+    let next = says g at (Err fault) (rw c.in-Err.is refl) in
     record {
       failure =
-          fault-fails before.failures mid.failures after.failures fault i.no_failure failures;
+          fault-fails before.failures mid.failures after.failures fault i.no_failure next.failure;
       fails_after =
           fails-after limit before.left mid.left after.left old new c.loop-number.records_read
-          i.earlier i.done fault i.so_far i.told gives more fetched number few;
+          i.earlier i.done fault i.so_far i.told next.gives
+          (while-open old.ended i.open' c.next_into.ensures.fetched) (fetched g at) next.number
+          next.few;
       never_ends =
           ended-beyond limit before.left mid.left after.left before.came after.came old new i.done
-          fault (c.next_into.ensures.limit ∙ i.limit_is) i.told gives counts over;
+          fault (c.next_into.ensures.limit ∙ i.limit_is) i.told next.gives (counts g at) next.over;
     }
-
-pub returns-in_err-take-in-Some-clause-came : goal.returns-in_err-take-in-Some-clause-came
-returns-in_err-take-in-Some-clause-came g c =
-    let i = c.loop-number.invariant in
-    let old = c.loop-number.blocks in
-    let new = c.next_into.new.self in
-    let refusal : c.from_residual.result ≡ Err c.in_err-take-in-Some.field-0.0 = search rules in
-    let counts = counts_twice _ _ _ _ _ _ _ _ _ i.counts (while-open old.ended i.open' c.next_into.ensures.count) in
-    rw refusal (came-in c.args.blocks.now.limit (g.R.Source.state c.args.reader.now).left (g.R.Source.state c.loop-number.reader).left (g.R.Source.state c.next_into.new.reader).left (g.R.Source.state c.args.reader.now).came (g.R.Source.state c.next_into.new.reader).came
-    new.came old new i.done _ refl i.told (while-open old.ended i.open' c.next_into.ensures.record) counts)
-
-pub returns-in-Err-clause-came : goal.returns-in-Err-clause-came
-returns-in-Err-clause-came g c =
-    let i = c.loop-number.invariant in
-    let old = c.loop-number.blocks in
-    let new = c.next_into.new.self in
-    let counts = counts_twice _ _ _ _ _ _ _ _ _ i.counts (while-open old.ended i.open' c.next_into.ensures.count) in
-    came-in c.args.blocks.now.limit (g.R.Source.state c.args.reader.now).left (g.R.Source.state c.loop-number.reader).left (g.R.Source.state c.next_into.new.reader).left (g.R.Source.state c.args.reader.now).came (g.R.Source.state c.next_into.new.reader).came
-    new.came old new i.done _ refl i.told (while-open old.ended i.open' c.next_into.ensures.record) counts
-
-pub overflow_add-result : goal.overflow_add-result
-overflow_add-result g c = omega (arith, c.number.ensures.small, c.next_into.ensures.limit, c.loop-number.invariant.limit_is, c.requires.limit)
-
-pub returns-in_err-take-in-Some-clause-next : goal.returns-in_err-take-in-Some-clause-next
-returns-in_err-take-in-Some-clause-next g c =
-    let i = c.loop-number.invariant in
-    let old = c.loop-number.blocks in
-    let new = c.next_into.new.self in
-    let x : Numbered = (c.in-Ok.number, c.in-Some.record) in
-    let answer : given c.next_into.new.into c.next_into.result ≡ Ok (Some x) =
-    rw (c.in-Ok.is, c.in-Some.is) refl in
-    let number = subst (λ (a : Answer). HasNumber new.number a) answer
-    (while-open old.ended i.open' c.next_into.ensures.number) in
-    let fault = c.in_err-take-in-Some.field-0.0 in
-    let refusal : c.from_residual.result ≡ Err fault = search rules in
-    rw refusal (after-refused new.number x.0 i.earlier x.1 fault
-    (c.in_err-take-in-Some.ensures.err i.earlier i.so_far.is_kept) number)
 
 pub returns-in-Err-clause-next : goal.returns-in-Err-clause-next
 returns-in-Err-clause-next g c =
-    let i = c.loop-number.invariant in
-    let old = c.loop-number.blocks in
-    let new = c.next_into.new.self in
-    let answer : given c.next_into.new.into c.next_into.result ≡ Err c.in-Err.fault =
-    rw c.in-Err.is refl in
-    let number = subst (λ (a : Answer). HasNumber new.number a) answer
-    (while-open old.ended i.open' c.next_into.ensures.number) in
-    after-fault new.number c.in-Err.fault number
+    let at = (goal.at.returns-in-Err-clause-next g c).After-next_into in
+    let next = says g at (Err c.in-Err.fault) (rw c.in-Err.is refl) in
+    after-fault c.next_into.new.self.number c.in-Err.fault next.number
