@@ -238,8 +238,13 @@ returns-in-None-clause-ok g c =
 
 pub overflow_add-result : goal.overflow_add-result
 overflow_add-result g c =
-    omega (arith, c.number.ensures.small, c.next_into.ensures.limit,
-    c.loop-number.invariant.limit_is, c.requires.limit)
+    omega (
+      arith,
+      c.number.ensures.small,
+      c.next_into.ensures.limit,
+      c.loop-number.invariant.limit_is,
+      c.requires.limit,
+    )
 
 -- ---- the next record has a fault
 

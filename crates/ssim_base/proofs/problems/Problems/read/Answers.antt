@@ -8,13 +8,16 @@ use Rattle.ssim_base.specs.Problems.{missing_in, fault_at}
 use Rattle.ssim_base.specs.declared.fault.BaseFault.TheVariants.{Read}
 use Rattle.ssim_base.proofs.ProblemLemmas.{ToldBlocks, none-so-far, one-so-far, names-last, problems-cut, problems-end, told-block, told-none}
 use Rattle.ssim_base.proofs.ReadingLemmas.{while-open}
+use Rattle.ssim_base.proofs.problems.Problems.read.Given as given
+use Rattle.ssim_base.proofs.problems.Problems.read.Goals.{After-next_block}
 use Rattle.ssim_base.proofs.problems.Problems.read.Goals as goal
 
 pub loop-next-init : goal.loop-next-init
 loop-next-init g c =
     let fresh = c.new-blocks.ensures in
     let limit = c.args.limit in
-    let left = (g.R.Source.state c.args.reader.now).left in
+    let before = g.R.Source.state c.args.reader.now in
+    let left = before.left in
     let number : c.new-blocks.result.number ≡ 0 = ap (λ (r : Reading). r.number) fresh in
     let few = c.new-found.ensures.records_are in
     record {
@@ -24,28 +27,67 @@ loop-next-init g c =
       few = omega (arith, number, few);
       blocks = [];
       so_far = none-so-far c.new-found.result c.new-found.ensures;
-      told = subst (λ (r : Reading). ToldBlocks limit left left r []) (sym fresh) (told-none limit left c.frames_are_one.ensures.exist);
+      told =
+          subst (λ (r : Reading). ToldBlocks limit left left r []) (sym fresh)
+          (told-none limit left c.frames_are_one.ensures.exist);
       fetched =
           subst (λ (r : Reading). Fetches false 0 [] left r.number r.held left) (sym fresh)
           (fetches_first false 0 [] left);
-      counts = subst (λ (r : Reading). CountGoesOn left left (g.R.Source.state c.args.reader.now).came (g.R.Source.state c.args.reader.now).came 0 r.came) (sym fresh)
-          (counts_none left (g.R.Source.state c.args.reader.now).came 0);
+      counts =
+          subst (λ (r : Reading). CountGoesOn left left before.came before.came 0 r.came) (sym fresh)
+          (counts_none left before.came 0);
       no_failure = refl;
     }
 
+-- ---- what a call for the next block says
+
+-- of what it returned
+record Says (g : given.Over) (c : After-next_block g) (a : BlockAnswer) : Type 0 where
+  gives : GivesNextBlock c.loop-next.blocks (g.R.Source.state c.loop-next.reader).left
+      c.next_block.new.self (g.R.Source.state c.next_block.new.reader).left a
+  failure : FailsAs (g.R.Source.state c.loop-next.reader).failures
+      (g.R.Source.state c.next_block.new.reader).failures (without_block a)
+  number : HasNumber c.next_block.new.self.number (without_block a)
+  counts : CountsBlock c.loop-next.blocks c.next_block.new.self a
+  few : HoldsFew c.next_block.new.self.held (without_block a)
+
+says : (g : given.Over) (c : After-next_block g) (a : BlockAnswer) → c.next_block.result ≡ a
+    → Says g c a
+says g c a is =
+    let open' = c.loop-next.invariant.open' in
+    subst (Says g c) is (record {
+      gives = while-open _ open' c.next_block.ensures.record;
+      failure = while-open _ open' c.next_block.ensures.fault;
+      number = while-open _ open' c.next_block.ensures.number;
+      counts = while-open _ open' c.next_block.ensures.counts;
+      few = while-open _ open' c.next_block.ensures.few_left;
+    })
+
+-- of all bytes that were fetched
+fetched : (g : given.Over) (c : After-next_block g)
+    → Fetches false 0 [] (g.R.Source.state c.args.reader.now).left c.next_block.new.self.number
+    c.next_block.new.self.held (g.R.Source.state c.next_block.new.reader).left
+fetched g c =
+    let old = c.loop-next.blocks in
+    let new = c.next_block.new.self in
+    let i = c.loop-next.invariant in
+    fetches_on 0 old.number new.number old.number new.number [] old.held new.held _ _ _ i.fetched
+    (while-open old.ended i.open' c.next_block.ensures.fetched) (omega arith)
+
+-- ---- a block was read
+
 pub loop-next-preserved : goal.loop-next-preserved
 loop-next-preserved g c =
+    let at = (goal.at.loop-next-preserved g c).After-next_block in
     let i = c.loop-next.invariant in
     let old = c.loop-next.blocks in
     let new = c.next_block.new.self in
     let number = c.in-Ok-Some.next.0 in
     let block = c.in-Ok-Some.next.1 in
     let answer : c.next_block.result ≡ Ok (Some (number, block)) = search rules in
-    let gives = subst (λ (a : BlockAnswer). GivesNextBlock old (g.R.Source.state c.loop-next.reader).left new (g.R.Source.state c.next_block.new.reader).left a) answer (while-open old.ended i.open' c.next_block.ensures.record) in
-    let counts = subst (λ (a : BlockAnswer). CountsBlock old new a) answer (while-open old.ended i.open' c.next_block.ensures.counts) in
-    let fault = subst (λ (a : BlockAnswer). FailsAs (g.R.Source.state c.loop-next.reader).failures (g.R.Source.state c.next_block.new.reader).failures (without_block a)) answer (while-open old.ended i.open' c.next_block.ensures.fault) in
-    let more = counts.0 in
-    let within = counts.1 in
+    let next = says g at (Ok (Some (number, block))) answer in
+    let more = next.counts.0 in
+    let within = next.counts.1 in
     let same = c.next_block.ensures.limit in
     let limit = i.limit_is in
     let records = c.take.ensures.records in
@@ -56,71 +98,69 @@ loop-next-preserved g c =
       counted = omega (arith, within, same, limit);
       few = omega (arith, records, few, more);
       blocks = i.blocks ++ (number, block) ∷ [];
-      so_far = one-so-far c.loop-next.found c.take.new.self i.blocks number block i.so_far c.in_ok-take-in-Ok-Some.ensures.takes records c.take.ensures.trailer;
-      told = told-block c.args.limit (g.R.Source.state c.args.reader.now).left (g.R.Source.state c.loop-next.reader).left (g.R.Source.state c.next_block.new.reader).left old new i.blocks number block i.told gives;
-      fetched =
-          fetches_on 0 old.number new.number old.number new.number [] old.held new.held _ _ _ i.fetched
-          (while-open old.ended i.open' c.next_block.ensures.fetched) (omega arith);
-      counts = counts_twice _ _ _ _ _ _ _ _ _ i.counts (while-open old.ended i.open' c.next_block.ensures.count);
-      no_failure = fault ∙ i.no_failure;
+      so_far =
+          one-so-far c.loop-next.found c.take.new.self i.blocks number block i.so_far
+          c.in_ok-take-in-Ok-Some.ensures.takes records c.take.ensures.trailer;
+      told =
+          told-block c.args.limit (g.R.Source.state c.args.reader.now).left
+          (g.R.Source.state c.loop-next.reader).left
+          (g.R.Source.state c.next_block.new.reader).left old new i.blocks number block i.told
+          next.gives;
+      fetched = fetched g at;
+      counts =
+          counts_twice _ _ _ _ _ _ _ _ _ i.counts
+          (while-open old.ended i.open' c.next_block.ensures.count);
+      no_failure = next.failure ∙ i.no_failure;
     }
+
+-- ---- no block is left
 
 pub returns-in-Ok-None-clause-ok : goal.returns-in-Ok-None-clause-ok
 returns-in-Ok-None-clause-ok g c =
+    let at = (goal.at.returns-in-Ok-None-clause-ok g c).After-next_block in
     let i = c.loop-next.invariant in
-    let old = c.loop-next.blocks in
-    let new = c.next_block.new.self in
     let found = c.loop-next.found in
     let p = c.in_ok-problems-in-Ok-None.problems in
     let so = i.so_far in
-    let answer : c.next_block.result ≡ Ok None = search rules in
-    let gives = subst (λ (a : BlockAnswer). GivesNextBlock old (g.R.Source.state c.loop-next.reader).left new (g.R.Source.state c.next_block.new.reader).left a) answer (while-open old.ended i.open' c.next_block.ensures.record) in
+    let next = says g at (Ok None) (search rules) in
     let faults = c.in_ok-problems-in-Ok-None.ensures.faults so.standing so.checks_are in
-    problems-end c.args.limit (g.R.Source.state c.args.reader.now).left (g.R.Source.state c.loop-next.reader).left (g.R.Source.state c.next_block.new.reader).left old new i.blocks found p i.limit_is so i.told gives
+    problems-end c.args.limit (g.R.Source.state c.args.reader.now).left
+    (g.R.Source.state c.loop-next.reader).left (g.R.Source.state c.next_block.new.reader).left
+    c.loop-next.blocks c.next_block.new.self i.blocks found p i.limit_is so i.told next.gives
     c.in_ok-problems-in-Ok-None.ensures.records
-    (subst (λ (n : ℕ). p.faults.items ≡ found.faults.items ++ fault_at (n + 1) (missing_in so.standing found.trailer)) c.number.ensures.value faults)
+    (subst (λ (n : ℕ). p.faults.items ≡ found.faults.items
+    ++ fault_at (n + 1) (missing_in so.standing found.trailer)) c.number.ensures.value faults)
+
+-- ---- the next block has a fault
 
 pub returns-in-Err-Short-clause-ok : goal.returns-in-Err-Short-clause-ok
 returns-in-Err-Short-clause-ok g c =
+    let at = (goal.at.returns-in-Err-Short-clause-ok g c).After-next_block in
     let i = c.loop-next.invariant in
-    let old = c.loop-next.blocks in
-    let new = c.next_block.new.self in
     let n = c.in-Err-Short.record in
     let found = c.loop-next.found in
     let done = c.in_ok-problems-in-Err-Short in
-    let faults : done.problems.faults.items ≡ found.faults.items ++ Read (Short n) ∷ [] = rw c.in-Err-Short.field-0-is at done.ensures.faults in
-    let answer : c.next_block.result ≡ Err (Short n) = search rules in
-    let gives = subst (λ (a : BlockAnswer). GivesNextBlock old (g.R.Source.state c.loop-next.reader).left new (g.R.Source.state c.next_block.new.reader).left a) answer (while-open old.ended i.open' c.next_block.ensures.record) in
-    let number = subst (λ (a : BlockAnswer). HasNumber new.number (without_block a)) answer (while-open old.ended i.open' c.next_block.ensures.number) in
-    problems-cut c.args.limit (g.R.Source.state c.args.reader.now).left (g.R.Source.state c.loop-next.reader).left (g.R.Source.state c.next_block.new.reader).left old new i.blocks found done.problems n i.limit_is i.so_far i.told gives number
-    done.ensures.records faults
+    let faults : done.problems.faults.items ≡ found.faults.items ++ Read (Short n) ∷ [] =
+    rw c.in-Err-Short.field-0-is at done.ensures.faults in
+    let next = says g at (Err (Short n)) (search rules) in
+    problems-cut c.args.limit (g.R.Source.state c.args.reader.now).left
+    (g.R.Source.state c.loop-next.reader).left (g.R.Source.state c.next_block.new.reader).left
+    c.loop-next.blocks c.next_block.new.self i.blocks found done.problems n i.limit_is i.so_far
+    i.told next.gives next.number done.ensures.records faults
 
 pub returns-in-Err-clause-err : goal.returns-in-Err-clause-err
 returns-in-Err-clause-err g c =
+    let at = (goal.at.returns-in-Err-clause-err g c).After-next_block in
     let i = c.loop-next.invariant in
-    let old = c.loop-next.blocks in
-    let new = c.next_block.new.self in
-    let before = (g.R.Source.state c.args.reader.now).left in
-    let left = (g.R.Source.state c.loop-next.reader).left in
-    let after = (g.R.Source.state c.next_block.new.reader).left in
-    let answer : c.next_block.result ≡ Err c.in-Err.fault = search rules in
-    let gives =
-    subst (λ (a : BlockAnswer). GivesNextBlock old left new after a) answer
-    (while-open old.ended i.open' c.next_block.ensures.record) in
-    let fetched =
-    fetches_on 0 old.number new.number old.number new.number [] old.held new.held _ _ _ i.fetched
-    (while-open old.ended i.open' c.next_block.ensures.fetched) (omega arith) in
-    let number =
-    subst (λ (a : BlockAnswer). HasNumber new.number (without_block a)) answer
-    (while-open old.ended i.open' c.next_block.ensures.number) in
-    let few =
-    subst (λ (a : BlockAnswer). HoldsFew new.held (without_block a)) answer
-    (while-open old.ended i.open' c.next_block.ensures.few_left) in
+    let next = says g at (Err c.in-Err.fault) (search rules) in
     record {
       is_of_device = search rules;
       failure = search rules;
       names =
-          names-last c.args.limit before left after old new i.blocks c.in-Err.fault fetched few
-          i.told gives number;
+          names-last c.args.limit (g.R.Source.state c.args.reader.now).left
+          (g.R.Source.state c.loop-next.reader).left
+          (g.R.Source.state c.next_block.new.reader).left c.loop-next.blocks
+          c.next_block.new.self i.blocks c.in-Err.fault (fetched g at) next.few i.told next.gives
+          next.number;
       never_ends = search rules;
     }
