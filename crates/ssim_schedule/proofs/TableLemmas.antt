@@ -4,14 +4,16 @@ use Rattle.std.specs.List.{insert, range_with_len}
 use Rattle.std.specs.List.Sorted.{IsSearchInRange, IsBinarySearchResult, IsNonDecreasingBy}
 use Rattle.std.specs.Ordering.{nat_cmp, ordering_index}
 use Rattle.std.proofs.lemmas.Cmp.{ranked}
+use Rattle.std.proofs.lemmas.List.{get_or_default}
 use Rattle.std.proofs.lemmas.List.Sorted.{IsNonDecreasingBy-from_default}
 use Rattle.std.proofs.lemmas.List.Edits.{length-insert, get_or-insert_below, get_or-insert_at, get_or-insert_above}
 use Rattle.std.proofs.lemmas.Bool.{cases_eq}
 use Rattle.std.proofs.lemmas.Bool.Decides.{nat_tests}
 use Rattle.ssim_values.specs.Flight.{FlightNumber}
 use Rattle.ssim_periods.specs.Calendar.{day_count}
-use Rattle.ssim_periods.specs.Days.{each_day}
+use Rattle.ssim_periods.specs.Days.{Seen, each_day}
 use Rattle.ssim_base.specs.ReadBack.{place_of}
+use Rattle.ssim_base.specs.Timetable.{Legs}
 use Rattle.ssim_schedule.specs.internal.Table.{AreRising, IsAt, IsGapFor, Table, found, key_at, no_entry}
 use Rattle.ssim_schedule.specs.declared.timetable.flight_table.FlightPeriods.{FlightPeriods}
 
@@ -120,6 +122,52 @@ rising_insert table rising g k gap i j lt in_range =
     let key_here : (i : ℕ) → i ≡ k → key_at new i ≡ place_of g.flight = λ i here. rw here (ap key (get_or-insert_at table k g no_entry gap.in_range)) in
     let key_above : (i : ℕ) → k < i → key_at new i ≡ key_at table (i - 1) = λ i above. subst (λ q. key_at new q ≡ key_at table (i - 1)) {x = i - 1 + 1} (omega arith) (ap key (get_or-insert_above table k g no_entry (i - 1) (omega arith) gap.in_range)) in
     grind (arith, key_below i, key_here i, key_above i, key_below j, key_here j, key_above j, rising i j, rising i (j - 1), rising (i - 1) (j - 1), gap.lower_before i, gap.higher_after (j - 1))
+
+-- ---- a table of entries, which is seen as `view`
+
+pub is_at : {table view : Table} {q : FlightNumber} {i : ℕ} → table ≡ view → IsAt view q i
+    → IsAt table q i
+is_at {q = q} {i = i} same is = subst (λ (t : Table). IsAt t q i) (sym same) is
+
+pub is_gap : {table view : Table} {q : FlightNumber} {i : ℕ} → table ≡ view → IsGapFor view q i
+    → IsGapFor table q i
+is_gap {q = q} {i = i} same gap = subst (λ (t : Table). IsGapFor t q i) (sym same) gap
+
+module _ {X : Type 0} (field : FlightPeriods → X) (other : X) {table view : Table}
+    (same : table ≡ view)
+  where
+    -- the entry that a search found is what the flight has
+    pub entry_has : {q : FlightNumber} {i : ℕ} (entry : FlightPeriods) → AreRising table
+        → IsAt view q i → entry ≡ get_or table i entry → field entry ≡ found field other view q
+    entry_has {q} {i} entry rising at is =
+        let here = is_at same at in
+        ap field (is ∙ get_or_default table i entry no_entry here.in_range)
+        ∙ sym (found_at field other table rising q i here)
+        ∙ ap (λ (t : Table). found field other t q) same
+
+    -- other periods are put in its place
+    pub set_has : {q : FlightNumber} {i : ℕ} {x : X} (p : Seen Legs) → AreRising table
+        → IsAt view q i → field (record { flight = q; periods = p }) ≡ x → (r : FlightNumber)
+        → found field other (set table i (record { flight = q; periods = p })) r
+        ≡ (if nat_eq (place_of q) (place_of r) then x else found field other view r)
+    set_has {q} {i} {x} p rising at is r =
+        found_set field other table rising (record { flight = q; periods = p }) i r (is_at same at)
+        ∙ ap (λ (y : X). if nat_eq (place_of q) (place_of r) then y else found field other table r) is
+        ∙ ap (λ (t : Table). if nat_eq (place_of q) (place_of r) then x else found field other t r)
+        same
+
+    -- an entry is put into the gap for it
+    pub insert_has : {new : Table} {q : FlightNumber} {i : ℕ} {x : X} (p : Seen Legs)
+        → new ≡ insert table i (record { flight = q; periods = p }) → IsGapFor view q i
+        → field (record { flight = q; periods = p }) ≡ x → (r : FlightNumber)
+        → found field other new r
+        ≡ (if nat_eq (place_of q) (place_of r) then x else found field other view r)
+    insert_has {new} {q} {i} {x} p items gap is r =
+        ap (λ (t : Table). found field other t r) items
+        ∙ found_insert field other table (record { flight = q; periods = p }) i r (is_gap same gap)
+        ∙ ap (λ (y : X). if nat_eq (place_of q) (place_of r) then y else found field other table r) is
+        ∙ ap (λ (t : Table). if nat_eq (place_of q) (place_of r) then x else found field other t r)
+        same
 
 -- ---- days
 
