@@ -14,7 +14,7 @@ use Rattle.ssim_records.specs.Segment.{SegmentFields}
 use Rattle.ssim_records.specs.Trailer.{TrailerFields}
 use Rattle.ssim_records.specs.declared.record.Record.{Record}
 use Rattle.ssim_records.specs.declared.record.Record.TheVariants.{Header, Carrier, Leg, Segment, Trailer}
-use Rattle.ssim_base.specs.Base.{airline_of, carrier_end, closed, end_of, is_leg_named, is_overflow, is_rate, is_continued, is_trailer, kept, overlaps, refusal_at}
+use Rattle.ssim_base.specs.Base.{airline_of, carrier_end, end_of, is_leg_named, is_overflow, is_rate, is_continued, is_trailer, overlaps, refusal_at}
 use Rattle.ssim_base.specs.Base as base
 use Rattle.ssim_base.specs.BaseSeen.{is_leg_of}
 use Rattle.ssim_base.specs.internal.Acceptance.{AreLegs, Follows, HasAccepted, IsExpectedAfter, AcceptsLeg, AcceptsNext, gives}
@@ -248,41 +248,54 @@ own-leg heading r p earlier here s =
     let end : unwrap_or r.last (carrier_end earlier) ≡ p.last = ap (unwrap_or r.last) (sym here.2) ∙ sym s.last_is in
     rw (legs-follow earlier here.0 (Leg r) refl, own, s.blank, s.weekly, end, s.in_order, ← its-period heading r p s) refl
 
-pub leg-refused : (old : Acceptance) (heading : CarrierTerms) (r : LegFields) (p : DayRange) (earlier : List Record) → old.expected ≡ expected.Legs heading → HasAccepted old earlier → AcceptsLeg heading r p
-    → IsFlight r.name.flight → have_common_date (holds p) (uses_date (legs_at old.legs (place_of r.name.flight)) r.name.sequence) ≡ true
-    → refusal_at earlier (Leg r) ≡ Some refused.Overlap
-leg-refused old heading r p earlier before is s flight met =
-    let here : IsExpectedAfter (expected.Legs heading) earlier = subst (λ q. IsExpectedAfter q earlier) before is.is_expected in
-    let overlap : list_any (overlaps r.name p) earlier ≡ true = sym (overlaps-met old.legs r.name p earlier flight is.legs) ∙ met in
-    own-leg heading r p earlier here s ∙ rw overlap refl
+-- A leg record, and its name by which the table was asked for one of its dates.
+module _ (old : Acceptance) (heading : CarrierTerms) (r : LegFields) (p : DayRange)
+    (earlier : List Record) {name : Name} {met : Bool} (before : old.expected ≡ expected.Legs heading)
+    (is : HasAccepted old earlier) (s : AcceptsLeg heading r p) (named : name ≡ r.name)
+    (flight : IsFlight name.flight)
+    (met_is : met ≡ have_common_date (holds p)
+    (uses_date (legs_at old.legs (place_of name.flight)) name.sequence))
+  where
+    here : IsExpectedAfter (expected.Legs heading) earlier
+    here = subst (λ q. IsExpectedAfter q earlier) before is.is_expected
 
-pub leg-allowed : (old : Acceptance) (heading : CarrierTerms) (r : LegFields) (p : DayRange) (earlier : List Record) → old.expected ≡ expected.Legs heading → HasAccepted old earlier → AcceptsLeg heading r p
-    → IsFlight r.name.flight → have_common_date (holds p) (uses_date (legs_at old.legs (place_of r.name.flight)) r.name.sequence) ≡ false
-    → refusal_at earlier (Leg r) ≡ None
-leg-allowed old heading r p earlier before is s flight met =
-    let here : IsExpectedAfter (expected.Legs heading) earlier = subst (λ q. IsExpectedAfter q earlier) before is.is_expected in
-    let free : list_any (overlaps r.name p) earlier ≡ false = sym (overlaps-met old.legs r.name p earlier flight is.legs) ∙ met in
-    own-leg heading r p earlier here s ∙ rw free refl
+    own_flight : IsFlight r.name.flight
+    own_flight = subst (λ (n : Name). IsFlight n.flight) named flight
 
-pub stood-leg : (old new : Acceptance) (heading : CarrierTerms) (r : LegFields) (p : DayRange)
-    (closed' : Record) (earlier : List Record)
-    → old.expected ≡ expected.Legs heading → HasAccepted old earlier → AcceptsLeg heading r p
-    → IsFlight r.name.flight → have_common_date (holds p) (uses_date (legs_at old.legs (place_of r.name.flight)) r.name.sequence) ≡ false
-    → closed' ≡ Leg (kept_leg r p.last) → new.expected ≡ expected.Legs heading
-    → AddsLegAt old.legs new.legs (place_of r.name.flight) r.name.sequence r.name.variation p
-    → AcceptsNext new earlier (Leg r) closed'
-stood-leg old new heading r p closed' earlier before is s flight met same at legs =
-    let here : IsExpectedAfter (expected.Legs heading) earlier = subst (λ q. IsExpectedAfter q earlier) before is.is_expected in
-    let end : p.last ≡ unwrap_or r.last (carrier_end earlier) = s.last_is ∙ ap (unwrap_or r.last) here.2 in
-    record {
-      valid = leg-allowed old heading r p earlier before is s flight met;
-      closed_is = same ∙ ap (λ l. Leg (kept_leg r l)) end;
-      is_kept = subst (λ l. HasAccepted new (Leg (kept_leg r l) ∷ earlier)) end (record {
-        is_expected = subst (λ q. IsExpectedAfter q (Leg (kept_leg r p.last) ∷ earlier)) (sym at) (more-follow earlier (Leg (kept_leg r p.last)) false here.0 refl, here.1, here.2);
-        legs = legs-more old.legs new.legs (kept_leg r p.last) earlier flight is.legs
-            (subst (λ q. AddsLegAt old.legs new.legs (place_of r.name.flight) r.name.sequence r.name.variation q) (its-period heading r p s) legs);
-      });
-    }
+    overlap : list_any (overlaps r.name p) earlier ≡ met
+    overlap =
+        ap (λ (n : Name). list_any (overlaps n p) earlier) (sym named)
+        ∙ sym (overlaps-met old.legs name p earlier flight is.legs)
+        ∙ sym met_is
+
+    pub leg-refused : met ≡ true → refusal_at earlier (Leg r) ≡ Some refused.Overlap
+    leg-refused so = own-leg heading r p earlier here s ∙ rw (overlap ∙ so) refl
+
+    pub leg-allowed : met ≡ false → refusal_at earlier (Leg r) ≡ None
+    leg-allowed so = own-leg heading r p earlier here s ∙ rw (overlap ∙ so) refl
+
+    pub stood-leg : (new : Acceptance) (closed' : Record) → met ≡ false
+        → closed' ≡ Leg (kept_leg r p.last) → new.expected ≡ expected.Legs heading
+        → AddsLegAt old.legs new.legs (place_of name.flight) name.sequence name.variation p
+        → AcceptsNext new earlier (Leg r) closed'
+    stood-leg new closed' so same at legs =
+        let end : p.last ≡ unwrap_or r.last (carrier_end earlier) =
+        s.last_is ∙ ap (unwrap_or r.last) here.2 in
+        let last = Leg (kept_leg r p.last) in
+        let adds =
+        subst (λ (n : Name). AddsLegAt old.legs new.legs (place_of n.flight) n.sequence n.variation p)
+        named legs in
+        record {
+          valid = leg-allowed so;
+          closed_is = same ∙ ap (λ l. Leg (kept_leg r l)) end;
+          is_kept = subst (λ l. HasAccepted new (Leg (kept_leg r l) ∷ earlier)) end (record {
+            is_expected = subst (λ q. IsExpectedAfter q (last ∷ earlier)) (sym at)
+                (more-follow earlier last false here.0 refl, here.1, here.2);
+            legs = legs-more old.legs new.legs (kept_leg r p.last) earlier own_flight is.legs
+                (subst (λ q. AddsLegAt old.legs new.legs (place_of r.name.flight) r.name.sequence
+                r.name.variation q) (its-period heading r p s) adds);
+          });
+        }
 
 -- a leg record that is refused before its dates are compared
 pub leg-airline : (heading : CarrierTerms) (r : LegFields) (earlier : List Record) → IsExpectedAfter (expected.Legs heading) earlier → bytes_eq r.name.airline heading.airline ≡ false
