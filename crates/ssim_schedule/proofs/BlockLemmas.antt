@@ -75,6 +75,16 @@ module _ {X : Type 0} (field : FlightPeriods → X) where
   pub found_block : (other : X) (blocks : List Table) (j : ℕ) (q : FlightNumber) → AreBlocks 0 blocks → j ≡ block_of q → found field other (get_or blocks j []) q ≡ found field other (all_entries blocks) q
   found_block other blocks j q are its = sym (found-block other 0 blocks j q are (omega (arith, its)))
 
+  -- the same of blocks that are seen as one table
+  pub in_block : (other : X) (blocks : List Table) {view : Table} {j : ℕ} (block : Table)
+      (q : FlightNumber) → all_entries blocks ≡ view → AreBlocks 0 blocks
+      → block ≡ get_or blocks j [] → j ≡ block_of q
+      → found field other block q ≡ found field other view q
+  in_block other blocks {view} {j} block q same are is its =
+      ap (λ (t : Table). found field other t q) is
+      ∙ found_block other blocks j q are its
+      ∙ ap (λ (t : Table). found field other t q) same
+
 -- ---- a block in place of another
 
 blocks-set : (k : ℕ) (blocks : List Table) (j : ℕ) (new : Table) → AreBlocks k blocks → IsBlock (k + j) new → AreBlocks k (set blocks j new)

@@ -7,7 +7,7 @@ use Rattle.ssim_schedule.specs.internal.Blocks.{IsBlock}
 use Rattle.ssim_base.specs.ReadBack.{place_of}
 use Rattle.ssim_schedule.specs.internal.Table.{AddsOnlyAt, Table, table_days}
 use Rattle.ssim_base.specs.Timetable.{Days}
-use Rattle.ssim_schedule.proofs.BlockLemmas.{apart_places, block_at, blocks_set, each_flight, found_block}
+use Rattle.ssim_schedule.proofs.BlockLemmas.{apart_places, block_at, blocks_set, each_flight, in_block}
 use Rattle.ssim_schedule.proofs.ChangeLemmas.{cuts_at, days_at, no_days}
 use Rattle.ssim_base.proofs.Results.{if_ok, on_ok}
 use Rattle.ssim_schedule.proofs.timetable.flight_blocks.FlightBlocks.change.Given as given
@@ -72,10 +72,8 @@ returns-clause-counts g c =
     let at = (goal.at.returns-clause-counts g c).After-change in
     let flight = c.args.flight in
     let its : table_days c.in_ok-block.block.now flight ≡ table_days c.args.self.now flight =
-    ap (λ (t : Table). table_days t flight) (held g at)
-    ∙ found_block days_at no_days c.self.inside.blocks.items c.block_number.result flight
-    c.self.invariant.0 c.block_number.ensures.value
-    ∙ ap (λ (t : Table). table_days t flight) c.self.view_is in
+    in_block days_at no_days _ c.in_ok-block.block.now flight c.self.view_is c.self.invariant.0
+    (held g at) c.block_number.ensures.value in
     if_ok c.change.result
     (λ counts e. e ∙ ap (counts_on (holds c.args.period.now) (g.C.Change.class_of c.args.change.now)) its)
     c.change.ensures.counts

@@ -1,9 +1,11 @@
 -- The block of the flight is changed; the others stay.
-use Rattle.std.proofs.Common.{◌≡◌, ◌<◌, Bool, nat_eq, if◌then◌else◌, [], length, get_or, sym, ap, subst, ◌∙◌, arith, length-set}
+use Rattle.std.proofs.Common.{◌≡◌, ◌<◌, Bool, nat_eq, if◌then◌else◌, [], length, get_or, set, sym, ap, subst, ◌∙◌, arith, length-set}
 use Rattle.std.proofs.lemmas.List.{get_or_default}
-use Rattle.ssim_schedule.specs.internal.Blocks.{IsBlock}
+use Rattle.ssim_values.specs.Flight.{FlightNumber}
+use Rattle.ssim_schedule.specs.internal.Blocks.{IsBlock, all_entries}
 use Rattle.ssim_base.specs.ReadBack.{place_of}
-use Rattle.ssim_schedule.specs.internal.Table.{Table}
+use Rattle.ssim_schedule.specs.internal.Table.{Table, found}
+use Rattle.ssim_schedule.specs.declared.timetable.flight_table.FlightPeriods.{FlightPeriods}
 use Rattle.ssim_schedule.proofs.BlockLemmas.{apart_places, block_at, blocks_set, each_flight}
 use Rattle.ssim_schedule.proofs.ChangeLemmas.{cuts_at, days_at, no_days}
 use Rattle.ssim_base.proofs.Results.{on_ok}
@@ -38,29 +40,33 @@ invariant_of-self-2 c =
       length-set blocks c.block_number.result c.put.new.self ∙ c.self.invariant.1,
     )
 
+-- the flight has what is put, and each other flight what it had
+put_has : {X : Type 0} (field : FlightPeriods → X) (other x : X) (c : After-put)
+    → ((q : FlightNumber) → found field other c.put.new.self q
+    ≡ (if nat_eq (place_of c.args.flight) (place_of q) then x
+    else found field other c.in_ok-block.block.now q))
+    → (q : FlightNumber)
+    → found field other
+    (all_entries (set c.self.inside.blocks.items c.block_number.result c.put.new.self)) q
+    ≡ (if nat_eq (place_of c.args.flight) (place_of q) then x else found field other c.args.self.now q)
+put_has field other x c made =
+    let flight = c.args.flight in
+    let number = c.block_number.result in
+    each_flight field other
+    (λ q y z. z ≡ (if nat_eq (place_of flight) (place_of q) then x else y))
+    c.self.inside.blocks.items number c.in_ok-block.block.now c.put.new.self c.args.self.now
+    c.self.invariant.0 (within c) (held c) c.self.view_is (is_block c) made
+    (λ q elsewhere y. ap (λ (b : Bool). if b then x else y)
+    (sym (apart_places flight q number c.block_number.ensures.value elsewhere)))
+
 pub returns-clause-days : goal.returns-clause-days
 returns-clause-days c =
-    let at = (goal.at.returns-clause-days c).After-put in
-    let flight = c.args.flight in
-    let days = c.args.periods.days in
-    on_ok c.put.result (λ made.
-    each_flight days_at no_days
-    (λ q x y. y ≡ (if nat_eq (place_of flight) (place_of q) then days else x))
-    c.self.inside.blocks.items c.block_number.result c.in_ok-block.block.now c.put.new.self
-    c.args.self.now c.self.invariant.0 (within at) (held at) c.self.view_is (is_block at) made
-    (λ q elsewhere x. ap (λ (b : Bool). if b then days else x)
-    (sym (apart_places flight q c.block_number.result c.block_number.ensures.value elsewhere))))
+    on_ok c.put.result
+    (put_has days_at no_days c.args.periods.days (goal.at.returns-clause-days c).After-put)
     c.put.ensures.days
 
 pub returns-clause-cuts : goal.returns-clause-cuts
 returns-clause-cuts c =
-    let at = (goal.at.returns-clause-cuts c).After-put in
-    let flight = c.args.flight in
-    let cuts = c.args.periods.cuts in
-    on_ok c.put.result (λ made.
-    each_flight cuts_at [] (λ q x y. y ≡ (if nat_eq (place_of flight) (place_of q) then cuts else x))
-    c.self.inside.blocks.items c.block_number.result c.in_ok-block.block.now c.put.new.self
-    c.args.self.now c.self.invariant.0 (within at) (held at) c.self.view_is (is_block at) made
-    (λ q elsewhere x. ap (λ (b : Bool). if b then cuts else x)
-    (sym (apart_places flight q c.block_number.result c.block_number.ensures.value elsewhere))))
+    on_ok c.put.result
+    (put_has cuts_at [] c.args.periods.cuts (goal.at.returns-clause-cuts c).After-put)
     c.put.ensures.cuts
