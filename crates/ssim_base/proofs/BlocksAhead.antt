@@ -1,10 +1,14 @@
 -- Between two calls of a reading the blocks so far are the first ones of the bytes, and the others
 -- are ahead.
-use Rattle.std.proofs.Common.{◌≡◌, ℕ, ◌+◌, ◌-◌, ◌%◌, ◌^◌, false, List, [], ◌∷◌, ◌++◌, length, None, refl, sym, ap, subst, ◌∙◌, append_assoc, arith}
-use Rattle.ssim_records.specs.Blocks.{CountGoesOn}
+use Rattle.std.proofs.Common.{◌≡◌, ℕ, ◌+◌, ◌-◌, ◌%◌, ◌^◌, false, List, [], ◌∷◌, ◌++◌, length, Option, Some, None, refl, sym, ap, subst, ◌∙◌, append_assoc, arith}
+use Rattle.std.specs.Prelude.{IfNone}
+use Rattle.ssim_records.specs.Blocks.{CountGoesOn, CountsOn, Fetches}
 use Rattle.ssim_records.specs.Frames.{Frames, FramesExist, others}
 use Rattle.ssim_records.specs.Reading as reading
-use Rattle.ssim_records.specs.Reading.{IsAhead, Reading}
+use Rattle.ssim_records.specs.Reading.{FetchesNext, IsAhead, Reading}
+use Rattle.ssim_records.specs.Device.{Reader}
+use Rattle.ssim_records.specs.declared.records.Ending as records
+use Rattle.ssim_records.proofs.Framing.{counts_none, fetches_first, fetches_on}
 use Rattle.ssim_base.specs.Reading.{AreBlocks, HaveCome}
 use Rattle.ssim_base.specs.internal.DataSetReader.{unread}
 
@@ -63,3 +67,31 @@ counted-bytes start now n came is counts =
     let wrapped : (now + 0) % 2 ^ 128 ≡ (start + came) % 2 ^ 128 = counts in
     let same : now + 0 ≡ now = omega arith in
     ap (λ k. k % 2 ^ 128) (sym same) ∙ wrapped ∙ ap (λ k. (start + k) % 2 ^ 128) (sym is)
+
+-- ---- what was fetched
+
+-- what holds until a reading has ended
+pub while-open : {A : Type 0} (ended : Option records.Ending) → ended ≡ None → IfNone ended A → A
+while-open None e h = h
+while-open (Some x) e h = absurd cc
+
+pub fetched-first : {limit : ℕ} {r : Reading} (left : Option (List ℕ)) → r ≡ unread limit
+    → Fetches false 0 [] left r.number r.held left
+fetched-first left fresh =
+    subst (λ (r : Reading). Fetches false 0 [] left r.number r.held left) (sym fresh)
+    (fetches_first false 0 [] left)
+
+pub counted-first : {limit : ℕ} {r : Reading} (reader : Reader) → r ≡ unread limit
+    → CountsOn reader reader 0 r.came
+counted-first reader fresh =
+    subst (λ (r : Reading). CountsOn reader reader 0 r.came) (sym fresh)
+    (counts_none reader.left reader.came 0)
+
+-- one more call
+pub fetched-on : (told left left' : Option (List ℕ)) (old new : Reading) → old.ended ≡ None
+    → Fetches false 0 [] told old.number old.held left
+    → IfNone old.ended (FetchesNext old left new left')
+    → Fetches false 0 [] told new.number new.held left'
+fetched-on told left left' old new open' so next =
+    fetches_on 0 old.number new.number old.number new.number [] old.held new.held told left left' so
+    (while-open old.ended open' next) (omega arith)

@@ -3,7 +3,6 @@ use Rattle.std.proofs.Common.{◌≡◌, ℕ, zero, suc, ◌+◌, ◌-◌, ◌<�
 use Rattle.std.proofs.lemmas.List.{append-nil, reverse-append}
 use Rattle.std.proofs.lemmas.List.Elements.{All-append}
 use Rattle.std.specs.List.{All}
-use Rattle.std.specs.Prelude.{IfNone}
 use Rattle.ssim_records.specs.Blocks.{CountGoesOn, Fetches, beyond}
 use Rattle.ssim_records.specs.Frames.{Frames, FramesExist, others}
 use Rattle.ssim_records.specs.Reading as reading
@@ -12,7 +11,6 @@ use Rattle.ssim_records.specs.Record.{IsRecord, fault_of, serial_of}
 use Rattle.ssim_records.specs.declared.fault.RecordFault.{RecordFault}
 use Rattle.ssim_records.specs.declared.fault.RecordFault.TheVariants.{Short, BadType, BadColumn, ReadFault, ReaderNeverEnds}
 use Rattle.ssim_records.specs.declared.record.Record.{Record}
-use Rattle.ssim_records.specs.declared.records.Ending as records
 use Rattle.ssim_records.proofs.Framing.{takes_all}
 use Rattle.ssim_base.specs.Base.{Ending, Done, Broken, Outcome, at_record, check_notes, data_set, first_refusal, kept, kept_all, missing, note_if, notes_of, refusal_at, unless_refused}
 use Rattle.ssim_base.specs.internal.DataSetReader.{IsSoFar, notes_at, unread}
@@ -266,11 +264,6 @@ told-refused limit (Some all) (Some left) (Some left') r new g earlier done x re
       };
       is = λ later ending. refused-outcome g earlier done later ending x refusal so_far is;
     })
-
--- what holds until a reading has ended
-pub while-open : {A : Type 0} (ended : Option records.Ending) → ended ≡ None → IfNone ended A → A
-while-open None e h = h
-while-open (Some x) e h = absurd cc
 
 -- the refusal of a record, if one more was read
 pub step-refused : (limit : ℕ) (told left left' : Option (List ℕ)) (r new : Reading) (g : DataSetReader) (earlier : List Record) (done : List Numbered) (x : Numbered) (e : BaseFault)

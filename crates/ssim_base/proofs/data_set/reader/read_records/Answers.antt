@@ -1,15 +1,16 @@
 -- From record to record, by the lemmas on what was read so far; each result that ends the reading
 -- is the outcome of the bytes.
 use Rattle.std.proofs.Common.{rules, ◌≡◌, ℕ, ◌+◌, Some, None, Ok, Err, false, [], ◌∷◌, ◌++◌, refl, sym, ap, subst, ◌∙◌, arith}
-use Rattle.ssim_records.specs.Blocks.{CountGoesOn, CountsOn, Fetches}
+use Rattle.ssim_records.specs.Blocks.{CountsOn, Fetches}
 use Rattle.ssim_records.specs.Reading.{Answer, Counts, FailsAs, GivesNext, HasNumber, HoldsFew, NeverEnds, Reading, ending_of, given}
-use Rattle.ssim_records.proofs.Framing.{counts_none, counts_twice, fetches_first, fetches_on}
+use Rattle.ssim_records.proofs.Framing.{counts_twice}
 use Rattle.ssim_records.specs.declared.record.Record.{Record}
 use Rattle.ssim_base.specs.Base.{Done, kept}
 use Rattle.ssim_base.specs.Reading.{Came}
 use Rattle.ssim_base.specs.internal.Reading.{AreGivenOf}
 use Rattle.ssim_base.specs.declared.fault.BaseFault.TheVariants.{Memory}
-use Rattle.ssim_base.proofs.ReadingLemmas.{Numbered, Told, came-in, ended-beyond, fails-after, fault-fails, never-refused, never-fails, refused-fails, step-refused, while-open, nothing, one-more, told-end, told-fault, told-first, told-step}
+use Rattle.ssim_base.proofs.BlocksAhead.{counted-first, fetched-first, fetched-on, while-open}
+use Rattle.ssim_base.proofs.ReadingLemmas.{Numbered, Told, came-in, ended-beyond, fails-after, fault-fails, never-refused, never-fails, refused-fails, step-refused, nothing, one-more, told-end, told-fault, told-first, told-step}
 use Rattle.ssim_base.proofs.RestLemmas.{after-fault, after-refused}
 use Rattle.ssim_base.proofs.data_set.reader.read_records.Given as context
 use Rattle.ssim_base.proofs.data_set.reader.read_records.Goals.{After-next_into}
@@ -33,12 +34,8 @@ loop-number-init g c =
       so_far = nothing c.new-records_read.result new.kept new.notes new.previous;
       told = subst (λ (r : Reading). Told limit left left r []) (sym fresh)
           (told-first limit left c.frames_are_one.ensures.exist);
-      fetched =
-          subst (λ (r : Reading). Fetches false 0 [] left r.number r.held left) (sym fresh)
-          (fetches_first false 0 [] left);
-      counts =
-          subst (λ (r : Reading). CountGoesOn left left before.came before.came 0 r.came) (sym fresh)
-          (counts_none left before.came 0);
+      fetched = fetched-first left fresh;
+      counts = counted-first before fresh;
       no_failure = refl;
     }
 
@@ -73,11 +70,9 @@ fetched : (g : context.Over) (c : After-next_into g)
     → Fetches false 0 [] (g.R.Source.state c.args.reader.now).left c.next_into.new.self.number
     c.next_into.new.self.held (g.R.Source.state c.next_into.new.reader).left
 fetched g c =
-    let old = c.loop-number.blocks in
-    let new = c.next_into.new.self in
     let i = c.loop-number.invariant in
-    fetches_on 0 old.number new.number old.number new.number [] old.held new.held _ _ _ i.fetched
-    (while-open old.ended i.open' c.next_into.ensures.fetched) (omega arith)
+    fetched-on _ _ _ c.loop-number.blocks c.next_into.new.self i.open' i.fetched
+    c.next_into.ensures.fetched
 
 -- and of how many came
 counts : (g : context.Over) (c : After-next_into g)

@@ -1,13 +1,13 @@
 -- From block to block, by the lemmas on what was read so far.
 use Rattle.std.proofs.Common.{rules, ◌≡◌, ◌∙◌, ℕ, ◌+◌, Some, None, Ok, Err, false, [], ◌∷◌, ◌++◌, refl, sym, ap, subst, arith}
-use Rattle.ssim_records.specs.Blocks.{CountGoesOn, Fetches}
+use Rattle.ssim_records.specs.Blocks.{Fetches}
 use Rattle.ssim_records.specs.Reading.{BlockAnswer, CountsBlock, FailsAs, GivesNextBlock, HasNumber, HoldsFew, Reading, block_ending, without_block}
 use Rattle.ssim_records.specs.declared.fault.RecordFault.TheVariants.{Short}
-use Rattle.ssim_records.proofs.Framing.{counts_none, counts_twice, fetches_first, fetches_on}
+use Rattle.ssim_records.proofs.Framing.{counts_twice}
 use Rattle.ssim_base.specs.Problems.{missing_in, fault_at}
 use Rattle.ssim_base.specs.declared.fault.BaseFault.TheVariants.{Read}
 use Rattle.ssim_base.proofs.ProblemLemmas.{ToldBlocks, none-so-far, one-so-far, names-last, problems-cut, problems-end, told-block, told-none}
-use Rattle.ssim_base.proofs.ReadingLemmas.{while-open}
+use Rattle.ssim_base.proofs.BlocksAhead.{counted-first, fetched-first, fetched-on, while-open}
 use Rattle.ssim_base.proofs.problems.Problems.read.Given as given
 use Rattle.ssim_base.proofs.problems.Problems.read.Goals.{After-next_block}
 use Rattle.ssim_base.proofs.problems.Problems.read.Goals as goal
@@ -30,12 +30,8 @@ loop-next-init g c =
       told =
           subst (λ (r : Reading). ToldBlocks limit left left r []) (sym fresh)
           (told-none limit left c.frames_are_one.ensures.exist);
-      fetched =
-          subst (λ (r : Reading). Fetches false 0 [] left r.number r.held left) (sym fresh)
-          (fetches_first false 0 [] left);
-      counts =
-          subst (λ (r : Reading). CountGoesOn left left before.came before.came 0 r.came) (sym fresh)
-          (counts_none left before.came 0);
+      fetched = fetched-first left fresh;
+      counts = counted-first before fresh;
       no_failure = refl;
     }
 
@@ -68,11 +64,9 @@ fetched : (g : given.Over) (c : After-next_block g)
     → Fetches false 0 [] (g.R.Source.state c.args.reader.now).left c.next_block.new.self.number
     c.next_block.new.self.held (g.R.Source.state c.next_block.new.reader).left
 fetched g c =
-    let old = c.loop-next.blocks in
-    let new = c.next_block.new.self in
     let i = c.loop-next.invariant in
-    fetches_on 0 old.number new.number old.number new.number [] old.held new.held _ _ _ i.fetched
-    (while-open old.ended i.open' c.next_block.ensures.fetched) (omega arith)
+    fetched-on _ _ _ c.loop-next.blocks c.next_block.new.self i.open' i.fetched
+    c.next_block.ensures.fetched
 
 -- ---- a block was read
 
