@@ -23,8 +23,10 @@ exportable rs w = bases_export w.ending w.records rs w.notes w.spelt w.read
 pub framed : (rs : List Record) → WasRead rs → (frame : Frame) × HasFrame frame rs
 framed rs w = let e = exportable rs w in (e.frame, e.has_frame)
 
-length-framed : (frame : Frame) (rs : List Record) → (f : HasFrame frame rs) → length rs ≡ suc (suc (length f.0 + 1))
-length-framed frame rs f = ap length f.1 ∙ ap (λ n. suc (suc n)) (length-append f.0 (Trailer frame.trailer ∷ []))
+length-framed : (frame : Frame) (rs : List Record) → (f : HasFrame frame rs)
+    → length rs ≡ suc (suc (length f.0 + 1))
+length-framed frame rs f =
+    ap length f.1 ∙ ap (λ n. suc (suc n)) (length-append f.0 (Trailer frame.trailer ∷ []))
 
 -- these are three records at least
 pub three-read : (rs : List Record) → WasRead rs → 3 ≤ length rs

@@ -11,5 +11,12 @@ returns c =
     let after = c.copy_from_slice.ensures.after in
     let len : length copied ≡ 200 = ap length after ∙ c.told-bytes in
     let room : end + 201 ≤ length c.self.inside.bytes =
-    grind (arith, common_steps, c.requires, c.self.told, c.self.invariant, ap length c.self.view_is) in
+    grind (
+      arith,
+      common_steps,
+      c.requires,
+      c.self.told,
+      c.self.invariant,
+      ap length c.self.view_is,
+    ) in
     pushed c.self.inside.bytes copied end c.self.view_is after len room

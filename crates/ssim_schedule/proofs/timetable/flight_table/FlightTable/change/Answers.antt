@@ -51,8 +51,8 @@ returns-in_ok-own-in-Ok-clause-days g c =
     let flight = c.args.flight in
     let on = holds c.args.period.now in
     let outcome = g.C.Change.outcome c.args.change.now in
-    let own_days = ap (λ (p : Seen Legs). changed_on on outcome 0 p.days) c.in_ok-own-in-Ok.ensures.value
-    in
+    let own_days =
+    ap (λ (p : Seen Legs). changed_on on outcome 0 p.days) c.in_ok-own-in-Ok.ensures.value in
     on_ok c.apply.result (λ made q.
     days-set on outcome c.self.inside.flights.items c.self.invariant flight c.in-Ok.place
     c.index_mut.result.now c.apply.new.self (found g at) (here g at) (made ∙ own_days) q

@@ -17,6 +17,8 @@ invariant_of-self c =
     let place = c.in-Ok.place in
     let found = rw (← c.self.view_is) at c.in-Ok.ensures.found in
     let one : c.index.result.now ≡ c.index_mut.result.now =
-    c.index.ensures ∙ get_or_default table place c.index.result.now c.index_mut.result.now found.in_range ∙ sym c.index_mut.ensures.value in
+    c.index.ensures
+    ∙ get_or_default table place c.index.result.now c.index_mut.result.now found.in_range
+    ∙ sym c.index_mut.ensures.value in
     subst (λ (t : Table). AreRising t)
     (sym (same-entry table place c.index_mut.result.now c.index_mut.result.now c.in_ok-self-inside.field-0 (c.in_ok-self-inside.ensures ∙ c.in_ok-shared.ensures ∙ c.get.ensures ∙ ap (λ (f : FlightPeriods). f.periods) one) c.index_mut.ensures.value)) c.self.invariant
