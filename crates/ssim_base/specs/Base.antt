@@ -168,7 +168,7 @@ kept_all earlier [] = []
 kept_all earlier (r ∷ later) = kept earlier r ∷ kept_all (kept earlier r ∷ earlier) later
 
 -- The fault of a data set names the first invalid record: the least n such that record n is refused
--- after records 1 to n - 1. If no record is refused, the fault is that of the end. `earlier` has
+-- after records 1 to n - 1. If no record is refused, the fault is the one of the end. `earlier` has
 -- the accepted records, the latest first.
 abbrev pub first_refusal : Ending → List Record → List (ℕ × Record) → Option BaseFault
 first_refusal ending earlier [] = at_end ending (missing earlier)

@@ -87,15 +87,15 @@ pub record IsOfFirst (limit : ℕ) (bytes : List ℕ) (outcome : Outcome) : Type
 abbrev pub IsReadAs : ℕ → List ℕ → Outcome → Type 0
 IsReadAs limit bytes outcome = IsOfAll limit bytes outcome ⊎ IsOfFirst limit bytes outcome
 
--- the outcome is that of some valid records and of the way they end
+-- the outcome follows from some valid records and from the way they end
 pub record IsOfSome (outcome : Outcome) : Type 0 where
   pub records : List (ℕ × Record)
   pub ending : Ending
   pub valid : All (λ r. IsRecord r.1) records
   pub is : outcome ≡ data_set ending records
 
--- What bytes are read as. If the reader does not report its bytes, the outcome is that of some
--- records.
+-- What bytes are read as. If the reader does not report its bytes, the outcome follows from
+-- some records.
 abbrev pub IsReadOf : ℕ → Option (List ℕ) → Outcome → Type 0
 IsReadOf limit None outcome = IsOfSome outcome
 IsReadOf limit (Some bytes) outcome = IsReadAs limit bytes outcome
@@ -206,7 +206,7 @@ IsNextRecord limit bytes blocks number =
 
 -- Which record a 13 or a 14 names. At 13 it is the record after the first invalid one of those that
 -- came whole, or, if each of them is allowed, the record after them. At 14 the bytes within the
--- limit are read as one fault: as 14, which names this record, or as that of the first invalid
+-- limit are read as one fault: as 14, which names this record, or as the fault of the first invalid
 -- record, and then it is the record after this one. Nothing is said if the reader does not report
 -- its bytes.
 abbrev pub NamesNext : ℕ → Option (List ℕ) → Option (List ℕ) → BaseFault → Type 0

@@ -22,7 +22,7 @@ time_in first last columns = unwrap_or (clock_of (leg_columns first last columns
 abbrev pub variation_in : ℕ → ℕ → List ℕ → Option Offset
 variation_in first last columns = unwrap_or (utc_variation_of (leg_columns first last columns)) None
 
--- the date variation of departure, column 193, or with 1 that of arrival, column 194
+-- the date variation of departure, column 193, or with 1 the one of arrival, column 194
 abbrev pub date_variation : ℕ → List ℕ → ℕ
 date_variation place columns = slice_index (leg_columns 193 194 columns) place
 

@@ -45,7 +45,7 @@ leg_text movement =
     32 ∷ two_digits movement.sequence ++ 32 ∷ dotted movement.aircraft_type
     ++ 32 ∷ movement.other_station
 
--- the local time at the other station, how many days its date is from that of the board, and the
+-- the local time at the other station, how many days its date is from the board's, and the
 -- warning
 abbrev pub other_text : ℕ → Movement → List ℕ
 other_text date movement =

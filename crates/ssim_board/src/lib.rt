@@ -9,11 +9,11 @@
 //! - [`laws`]: only dates of origin near the date of a board have something on it.
 //!
 //! A leg departs on the date of origin plus its date variation of departure, and arrives on the
-//! date of origin plus that of arrival. In UTC mode the times are moved by the UTC variation of
-//! their station. The only error is [`Memory`].
+//! date of origin plus its date variation of arrival. In UTC mode the times are moved by the UTC
+//! variation of their station. The only error is [`Memory`].
 //!
 //! **Promise.** A board has each departure and each arrival of any flight at the station whose
-//! local date is that of the board, and nothing else, by time, departures first, then by flight,
+//! local date is the board's, and nothing else, by time, departures first, then by flight,
 //! date of origin and leg sequence.
 #![tactic(auto)]
 

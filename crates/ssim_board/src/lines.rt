@@ -104,8 +104,8 @@ fn push_leg(lines: &mut Vec<u8>, movement: &Movement) -> Result<(), Memory>
     Ok(())
 }
 
-// Adds the local time at the other station, how many days its date is from that of the board, and
-// the warning that the times are uncertain.
+// Adds the local time at the other station, how many days its date is from the board's, and the
+// warning that the times are uncertain.
 fn push_other(lines: &mut Vec<u8>, date: Day, movement: &Movement) -> Result<(), Memory>
     ensures { OnOk result (lines.new.items ≡ lines.old.items ++ other_text date movement.now) }
 {

@@ -1,5 +1,5 @@
 -- The picture of a calendar: a column for each week, a row for each weekday, in blocks of 53 weeks.
--- Weeks are counted from 0, that of 01JAN00, a Saturday: its Monday would be the day five before.
+-- Weeks are counted from 0, the week of 01JAN00, a Saturday: its Monday would be five days before.
 -- A cell is the letter of a day, or a full stop if the day has none.
 use Rattle.std.specs.Prelude.{ℕ, ◌+◌, ◌-◌, ◌*◌, ◌/◌, Bool, not, ◌&&◌, ◌||◌, ◌==◌, nat_eq, nat_le}
 use Rattle.std.specs.Prelude.{nat_lt, if◌then◌else◌, List, [], ◌∷◌, ◌++◌, map, take, drop, length}
@@ -122,7 +122,7 @@ blocks title cells first last from end =
     flat_map (λ k. block title cells first last (from + 53 * k) (earlier end (from + 53 * k + 53)))
     (range_with_len 0 ((end - from + 52) / 53))
 
--- the picture from the week of the first date to that of the last; nothing if there is no date
+-- the picture from the week of the first date to the week of the last; nothing if there is no date
 abbrev pub picture : List ℕ → List ℕ → List ℕ
 picture title cells =
     let first = first_date cells in let last = last_date cells in

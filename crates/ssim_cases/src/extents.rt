@@ -120,7 +120,7 @@ impl<'a> Call<'a> {
     }
 }
 
-/// That of a device that moves this many bytes and then fails, or moves none.
+/// The extent of a device that moves this many bytes and then fails, or moves none.
 fn extent_of(room: usize, stops: bool) -> Extent {
     Extent {
         room,

@@ -137,7 +137,7 @@ desk_line_at name rows =
     else (if bytes_eq name (codes "export") then with_one Export rows
     else whole_view_at name rows))))
 
--- the line of a command, if the name is that of one and its values are given
+-- the line of a command, if the name is a command's and its values are given
 abbrev pub line_at : Text → List Row → Option Line
 line_at name rows =
     if bytes_eq name (codes "check") then with_one Check rows

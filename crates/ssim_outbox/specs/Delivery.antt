@@ -15,8 +15,8 @@ use Rattle.ssim_desk.specs.Meaning.{after_subs}
 use Rattle.ssim_outbox.specs.Messages.{Send}
 use Rattle.ssim_outbox.specs.Order.{Follows}
 
--- The base of these records resolves the message whose heading it is. The reference is that of this
--- message, but with the group serial, and the sub-messages have these full dates.
+-- The base of these records resolves the message whose heading it is. The reference is this
+-- message's, but with the group serial, and the sub-messages have these full dates.
 pub record AreAddressed (records : List Record) (heading : MessageValue) (group : ℕ)
     (subs : List Sub)
     (reference : Reference) (dates : List ResolvedSub) : Type 0 where
@@ -27,7 +27,7 @@ pub record AreAddressed (records : List Record) (heading : MessageValue) (group 
   pub reference_is : reference ≡ record resolved.reference { group = group }
   pub dated : AreResolved frame.carrier subs dates
 
--- the messages with their references, whose group serials rise by one from that of the first, and
+-- the messages with their references, whose group serials rise by one from the first, and
 -- with the full dates of their sub-messages
 abbrev pub entries_of : Reference → List ResolvedSub → List MessageValue → List Entry
 entries_of reference dates [] = []

@@ -6,7 +6,7 @@ use Rattle.ssim_text.specs.declared.reference.Reference.{Reference}
 use Rattle.ssim_held.specs.Entries.{Entry}
 use Rattle.ssim_held.specs.Held.{reference_cmp}
 
--- the reference comes after that of each message
+-- the reference comes after each message's
 abbrev pub Follows : Reference → List Entry → Type 0
 Follows reference entries = AllByRecursion (λ e. reference_cmp e.reference reference ≡ Less) entries
 
@@ -16,7 +16,7 @@ last_reference [] = None
 last_reference (e ∷ []) = Some e.reference
 last_reference (e ∷ f ∷ entries) = last_reference (f ∷ entries)
 
--- the reference does not come after that of each message, the greatest of which is `last`
+-- the reference does not come after each message's, the greatest of which is `last`
 abbrev pub RefusesOrder : Reference → List Entry → Reference → Type 0
 RefusesOrder reference entries last =
     (Follows reference entries → ⊥) × (last_reference entries ≡ Some last)

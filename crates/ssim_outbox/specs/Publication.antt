@@ -1,4 +1,4 @@
--- What is published: the messages that lead the timetable of one desk towards that of another, and
+-- What is published: the messages that lead the timetable of one desk towards another desk's, and
 -- the lines that say which.
 use Rattle.std.specs.Prelude.{◌≡◌, ℕ, List, ◌++◌, codes, length, map}
 use Rattle.std.specs.Fmt.{decimal}

@@ -29,7 +29,7 @@ pub record HoldsAllOf (from to : DeskSeen) : Type 0 where
   pub texts : All (λ e. IsText e.message) to.held
 
 -- If `to` holds all that `from` holds, then some list of sub-messages makes, on each date of each
--- flight, the itinerary of `to` of that of `from`.
+-- flight, the itinerary of `to` of the itinerary of `from`.
 abbrev pub AllIsReached : Type 0
 AllIsReached =
     (from to : DeskSeen) → HoldsAllOf from to
@@ -37,8 +37,9 @@ AllIsReached =
     → Reach from.base.rows day (on_day (days_of_desk from flight) day)
     (on_day (days_of_desk to flight) day)
 
--- So what messages make of the timetable of `from`, on the way to that of `to`, differs from the
--- latter on no date. The old and the new timetable are any that have the itineraries of the desks.
+-- So what messages make of the timetable of `from`, on the way to the timetable of `to`, differs
+-- from the latter on no date. The old and the new timetable are any that have the itineraries of
+-- the desks.
 abbrev pub NothingIsUnsaid : Type 0
 NothingIsUnsaid =
     (from to : DeskSeen) (old new after : FlightNumber → Days) → HoldsAllOf from to

@@ -9,7 +9,7 @@ ghost use Rattle.ssim_outbox.specs.examples.Texts;
 use ssim_difference::laws::equal_timetables_have_no_difference;
 
 /// The messages have the sub-messages that they send, each once and in order. Each message has the
-/// heading, and the next group serial after that of the message before.
+/// heading, and the next group serial after the message before.
 pub fn messages_send_each_once()
     ensures joined { SubsAreJoined }
     ensures rise { SerialsRise }
@@ -29,8 +29,8 @@ pub fn mailboxes_read()
 {}
 
 /// If two desks have one base, and the second holds each message that the first holds, then on each
-/// date messages can make of the first desk's itinerary that of the second. So a plan from the
-/// timetable of the first to that of the second leaves nothing unsaid. The second may hold more
+/// date messages can make of the first desk's itinerary the second desk's. So a plan from the first
+/// timetable to the second leaves nothing unsaid. The second may hold more
 /// messages, with any references.
 pub fn nothing_is_unsaid()
     ensures reached { AllIsReached }

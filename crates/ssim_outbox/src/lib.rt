@@ -1,5 +1,5 @@
-//! The messages that lead the timetable of one desk towards that of another, their texts, and what
-//! a desk makes of them.
+//! The messages that lead the timetable of one desk towards another desk's, their texts, and what a
+//! desk makes of them.
 //!
 //! - [`publish`]: the file of these messages, and the lines that say which they are and what they
 //!   leave unsaid, as [`Published`]; or an [`OutboxFault`].

@@ -23,8 +23,8 @@ const MOST_BYTES: usize = 65_536;
 /// The last message group serial.
 const LAST_GROUP: u32 = 99_999;
 
-/// The messages that send sub-messages, in order. The heading is that of a message: its originator,
-/// kind and time mode, and its reference, but that the group serial counts up by one for each
+/// The messages that send sub-messages, in order. The heading is a message's: its originator, kind
+/// and time mode, and its reference, but that the group serial counts up by one for each
 /// message. Each message has as many sub-messages as a text can have.
 ///
 /// The errors are 90, and 65 if the group serial would pass 99999.

@@ -19,7 +19,7 @@ use ssim_text::{Message, Sub};
 use ssim_values::{Airline, Designator, Memory};
 use std::alloc::Global;
 
-/// The sub-messages that lead the timetable of a desk towards that of another, and the dates that
+/// The sub-messages that lead the timetable of a desk towards another desk's, and the dates that
 /// they leave unsaid.
 #[derive(Drop)]
 pub(crate) struct Plan {

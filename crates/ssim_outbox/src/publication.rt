@@ -1,4 +1,4 @@
-//! What is published of the way from the timetable of one desk to that of another.
+//! What is published of the way from the timetable of one desk to another desk's.
 
 ghost use Rattle.std.specs.Prelude.{◌≡◌, ℕ, List, IfErr, IfOk, OnOk};
 ghost use Rattle.std.specs.List.{AllByRecursion};
@@ -31,7 +31,7 @@ pub struct Published {
     pub mail: Vec<u8>,
 }
 
-/// Leads the timetable of a desk, `from`, towards that of another, `to`, by messages. The word
+/// Leads the timetable of a desk, `from`, towards another desk's, `to`, by messages. The word
 /// names the reference of the first of them, as `01JUN00001E001`, and perhaps their originator, as
 /// `.ZRHRMLX/01JUN00001E001`. The group serial rises by one from message to message.
 ///

@@ -24,7 +24,7 @@ abbrev pub later_text : ℕ → List ℕ
 later_text variation =
     if variation == 48 || variation == 32 then [] else codes " +" ++ escaped_byte variation
 
--- the date variation of departure, column 193, or with 1 that of arrival, column 194
+-- the date variation of departure, column 193, or with 1 the one of arrival, column 194
 abbrev pub later_at : ℕ → List ℕ → List ℕ
 later_at place columns = later_text (slice_index (leg_columns 193 194 columns) place)
 

@@ -69,9 +69,9 @@ pub record IsReceived (refused : Option Text) (desk out : Text) (names : List Te
   pub receipts_are : receives.receipts ≡ receipts
   pub files : Some new ≡ with_kept kept (Some old)
 
--- The event leaves these files. No `receive` and no `publish` is an event `Done`: that of a
--- `receive` is `Received`, which has the receipts too, and that of a `publish` is `Came`, of the
--- messages' file.
+-- The event leaves these files. No `receive` and no `publish` is an event `Done`: a
+-- `receive` is an event `Received`, which has the receipts too, and a `publish` is an event `Came`,
+-- of the messages' file.
 abbrev pub Leaves : Event → Files → Files → Type 0
 Leaves (Done (Receive refused desk out names)) old new = ⊥
 Leaves (Done (Publish from to reference out)) old new = ⊥

@@ -17,7 +17,7 @@ heading_of r = record {
 }
 
 -- The bytes are a page of the desk's flights that fly on some date, each with the periods that an
--- export has. Its heading is that of the carrier record.
+-- export has. Its heading is of the carrier record.
 pub record ShowsPage (desk : DeskSeen) (printed : List ℕ) : Type 0 where
   pub carrier : CarrierFields
   pub has_carrier : HasCarrier desk.base.records carrier

@@ -1,4 +1,4 @@
--- The timetable in a file: that of a desk, or of a data set.
+-- The timetable in a file, which is a desk file or a data set.
 use Rattle.std.specs.Prelude.{◌≡◌, ◌⊎◌, List, [], ◌∷◌, ℕ, IfSome, Option, Ok, if◌then◌else◌}
 use Rattle.std.specs.Prelude.{codes, nat_eq}
 use Rattle.std.specs.List.{starts_with}
@@ -27,15 +27,15 @@ abbrev pub BeginsAs : FileKind → Option Files → Text → Type 0
 BeginsAs k files name =
     IfSome files (λ all. IfSome (file_of all name) (λ bytes. timetable_kind bytes ≡ k))
 
--- the file of this name is a data set, and the desk is that of the data set with an empty station
--- table: it holds no message
+-- the file of this name is a data set, and the desk is the data set's, with an empty station table:
+-- it holds no message
 abbrev pub ReadsAsDesk : Option Files → Text → DeskSeen → Type 0
 ReadsAsDesk files name desk =
     (records : List Record) × (notes : List Note) × ReadsFile files name (Ok (records, notes))
     × (desk.base ≡ base_with records []) × (desk.held ≡ [])
 
--- The file of this name has the timetable of this desk: it begins as a desk file, and is that of
--- the desk; or it is a data set, and the desk is that of the data set.
+-- The file of this name has the timetable of this desk: it begins as a desk file, and is
+-- the desk's; or it is a data set, and the desk is the data set's.
 abbrev pub ReadsTimetable : Option Files → Text → DeskSeen → Type 0
 ReadsTimetable files name desk =
     (BeginsAs kind.Desk files name × ReadsDesk files name desk)

@@ -4,8 +4,8 @@
 //!   over two [`Printer`]s, which count the failures of their writers. [`parse`] of
 //!   `ssim_command_line` gives the [`Request`] that the words name.
 //! - [`Content`]: what a store keeps, as the desk file of [`ssim_desk::Holdings`].
-//! - [`Refusal`]: why a command was refused; [`RefusalLine`]: its line; [`PrintedLine`]: the lines that commands
-//!   print.
+//! - [`Refusal`]: why a command was refused; [`RefusalLine`]: its line; [`PrintedLine`]: the lines
+//!   that commands print.
 //! - [`laws`]: offices to whose desks the same messages were brought have the same desk file; a
 //!   rehearsal of such desks ends with `same`; what `tidy` wrote is tidied to itself; the refusal of
 //!   a data set is its first problem.

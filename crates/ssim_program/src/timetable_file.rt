@@ -1,4 +1,4 @@
-//! The timetable in a file, that of a desk or of a data set, and its carrier record.
+//! The timetable in a file, a desk file or a data set, and its carrier record.
 
 ghost use Rattle.std.specs.Prelude.{◌≡◌, IfErr, IfOk, IfSome, Option};
 ghost use Rattle.ssim_program.specs.Files.{Files, IsOpened};

@@ -33,8 +33,8 @@ pub struct Publication {
     pub unsaid: Vec<FlightDifference>,
 }
 
-/// The sub-messages that make of each itinerary of a timetable that of another, if messages can, by
-/// these rows of a station table. A date on which they cannot stays as it is.
+/// The sub-messages that make of each itinerary of a timetable the itinerary of another one, if
+/// messages can, by these rows of a station table. A date on which they cannot stays as it is.
 pub fn plan(
     alloc: Global,
     rows: &[StationRow],

@@ -109,7 +109,7 @@ impl WantedLeg<'_> {
     }
 
     // Whether messages have to give the service type or the aircraft type, and do not: one of its
-    // bytes is blank or the like, or it is not that of the first leg.
+    // bytes is blank or the like, or it is not the first leg's.
     fn lacks_code(&self, field: Field) -> bool
         requires { IsTrue (is_own field) }
     {

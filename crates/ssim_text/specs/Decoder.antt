@@ -53,7 +53,7 @@ pub record IsWrittenTooLong (text : List ℕ) (f : Fault) (n : ℕ) : Type 0 whe
   pub fault : f ≡ fault.TooMany
   pub line : n ≡ 1
 
--- the fault of a text and its line: that of the first check that fails
+-- the fault of a text and its line: the fault of the first check that fails
 abbrev pub IsRefusal : List ℕ → TextFault → Type 0
 IsRefusal text refusal.Memory = Unit {0}
 IsRefusal text (refusal.Refused f n) =

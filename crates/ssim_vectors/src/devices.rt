@@ -16,7 +16,7 @@ pub struct Extent {
 }
 
 impl Extent {
-    /// That of a device that does not fail.
+    /// The extent of a device that does not fail.
     pub fn whole() -> Extent {
         Extent {
             room: usize::MAX,

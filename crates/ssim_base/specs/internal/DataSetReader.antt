@@ -53,7 +53,7 @@ pub record HasRead (limit : ℕ) (known : Option (List ℕ)) (Has : List Record 
   pub so_far : IsSoFar g earlier done
   pub given : AreGivenOf limit known done (Done number)
 
--- the reader's state is that of some records done, and these are in a list or counted
+-- the reader's state is the state after some records, and these are in a list or counted
 pub record IsWhole (Has : List Record → Type 0) (g : DataSetReader) : Type 0 where
   pub earlier : List Record
   pub done : List (ℕ × Record)

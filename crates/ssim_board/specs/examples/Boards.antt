@@ -107,7 +107,7 @@ round = leg (columns_of (codes "FDH06300630+0200  FDH06300630+0200  E90") (codes
 abbrev overnight : LegValue
 overnight = leg (columns_of (codes "DXB23002300+0400  FDH06300630+0200  320") (codes "01"))
 
--- the flight of the day departs, but not that of the day before
+-- the flight of the day departs, but not the flight of the day before
 on_its_day : is_there fdh 10027 (leg morning) Departure ∷ is_there fdh 10026 (leg morning) Departure
     ∷ is_there fdh 10027 (leg morning) Arrival ∷ []
     ≡ true ∷ false ∷ false ∷ []

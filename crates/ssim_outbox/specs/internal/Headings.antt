@@ -41,7 +41,7 @@ cancelling originator mode reference airline = record {
   free = [];
 }
 
--- the lines of a text of it after that of the originator, with this reference line
+-- the lines of a text of it after the originator's line, with this reference line
 abbrev pub cancelling_lines : TimeMode → List ℕ → List ℕ → List (List ℕ)
 cancelling_lines mode airline line =
     codes "SSM"

@@ -1,4 +1,4 @@
-//! The command `publish`: the messages that lead the timetable of one file to that of another.
+//! The command `publish`: the messages that lead the timetable of one file to another file's.
 
 ghost use Rattle.std.specs.Prelude.{◌≡◌, IfErr, IfOk};
 ghost use Rattle.ssim_command_line.specs.Line.{Publish};
@@ -12,7 +12,7 @@ use crate::timetable_file::open_timetable;
 use ssim_outbox::Published;
 use std::alloc::Global;
 
-/// Keeps the messages that lead the timetable of one file to that of another: a line for each
+/// Keeps the messages that lead the timetable of one file to another file's: a line for each
 /// message, the dates that no message says, and the numbers of all.
 pub(crate) fn publish<S: Store>(
     alloc: Global,
@@ -32,7 +32,7 @@ pub(crate) fn publish<S: Store>(
     Ok(lines)
 }
 
-/// What leads the timetable of one file to that of another.
+/// What leads the timetable of one file to another file's.
 fn published<S: Store>(
     alloc: Global,
     from: &str,

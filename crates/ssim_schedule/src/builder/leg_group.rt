@@ -128,7 +128,7 @@ impl LegGroup {
         (hash_of_reversed(&self.legs) % 4_294_967_296) as u32
     }
 
-    /// Takes the legs out, as an itinerary of their own. `hash` is that of the legs.
+    /// Takes the legs out, as an itinerary of their own. `hash` is the hash of the legs.
     pub(crate) fn take_new(&mut self, hash: u32) -> Result<Itinerary, Memory>
         requires { hash ≡ hash_of self.old.legs % 4294967296 }
         ensures { IfOk result (λ itinerary. itinerary ≡ self.old.legs) }

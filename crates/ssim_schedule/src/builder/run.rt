@@ -63,7 +63,8 @@ fn make_room(runs: &mut Vec<Run>, periods: &mut Periods<Itinerary>) -> Result<()
 }
 
 // Adds the days of a period to a run with the legs of the group. The result says whether there is
-// one; if not, nothing is changed. `hash` is that of the legs: a run with another is not compared.
+// one; if not, nothing is changed. `hash` is the hash of the legs: a run with another one is not
+// compared.
 fn widen(runs: &mut Vec<Run>, period: &Period, group: &LegGroup, hash: u32) -> bool
     ensures days { result ≡ true → (days : Days)
         → changed_by_each placed_each runs.new.items days
@@ -112,8 +113,8 @@ fn are_apart_from(runs: &[Run], period: &Period) -> bool
     }
 }
 
-// The legs of a group, which may lose them. A run with the same legs shares them. `hash` is that of
-// the legs.
+// The legs of a group, which may lose them. A run with the same legs shares them. `hash` is the
+// hash of the legs.
 fn take_legs(
     alloc: Global,
     runs: &[Run],
