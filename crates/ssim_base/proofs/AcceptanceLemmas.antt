@@ -14,7 +14,8 @@ use Rattle.ssim_records.specs.Segment.{SegmentFields}
 use Rattle.ssim_records.specs.Trailer.{TrailerFields}
 use Rattle.ssim_records.specs.declared.record.Record.{Record}
 use Rattle.ssim_records.specs.declared.record.Record.TheVariants.{Header, Carrier, Leg, Segment, Trailer}
-use Rattle.ssim_base.specs.Base.{airline_of, carrier_end, end_of, is_leg_named, is_overflow, is_rate, is_continued, is_trailer, overlaps, refusal_at}
+use Rattle.ssim_base.specs.Base.{airline_of, carrier_end, end_of, is_leg_named, is_overflow}
+use Rattle.ssim_base.specs.Base.{is_rate, is_continued, is_trailer, overlaps, refusal_at}
 use Rattle.ssim_base.specs.Base as base
 use Rattle.ssim_base.specs.BaseSeen.{is_leg_of}
 use Rattle.ssim_base.specs.internal.Acceptance.{AreLegs, Follows, HasAccepted, IsExpectedAfter, AcceptsLeg, AcceptsNext, gives}

@@ -1,6 +1,7 @@
 -- Between two calls of a reading the blocks so far are the first ones of the bytes, and the others
 -- are ahead.
-use Rattle.std.proofs.Common.{◌≡◌, ℕ, ◌+◌, ◌-◌, ◌%◌, ◌^◌, false, List, [], ◌∷◌, ◌++◌, length, Option, Some, None, refl, sym, ap, subst, ◌∙◌, append_assoc, arith}
+use Rattle.std.proofs.Common.{◌≡◌, ℕ, ◌+◌, ◌-◌, ◌%◌, ◌^◌, false, List, [], ◌∷◌, ◌++◌, length}
+use Rattle.std.proofs.Common.{Option, Some, None, refl, sym, ap, subst, ◌∙◌, append_assoc, arith}
 use Rattle.std.specs.Prelude.{IfNone}
 use Rattle.ssim_records.specs.Blocks.{CountGoesOn, CountsOn, Fetches}
 use Rattle.ssim_records.specs.Frames.{Frames, FramesExist, others}

@@ -6,7 +6,9 @@ use Rattle.std.specs.List.{flat_map, list_any}
 use Rattle.ssim_values.specs.Flight.{FlightNumber}
 use Rattle.ssim_records.specs.declared.record.Record.{Record}
 use Rattle.ssim_base.specs.Timetable.{Days, same_flight, on_day}
-use Rattle.ssim_base.specs.Export.{Frame, same_itinerary, pieces, pieces_records, flight_records, flights_records, flight_count, flight_at, all_flights, sections, export_unless_refused, export_refusal, chapter7_records}
+use Rattle.ssim_base.specs.Export.{Frame, same_itinerary, pieces, pieces_records, flight_records}
+use Rattle.ssim_base.specs.Export.{flights_records, flight_count, flight_at, all_flights, sections}
+use Rattle.ssim_base.specs.Export.{export_unless_refused, export_refusal, chapter7_records}
 use Rattle.ssim_base.specs.ReadBack as law
 use Rattle.ssim_base.specs.ReadBack.{place_of}
 use Rattle.ssim_base.proofs.ExportLaws.{FlownSuffice}

@@ -4,7 +4,8 @@ use Rattle.ssim_records.specs.declared.record.Record.{Record}
 use Rattle.ssim_records.specs.declared.fault.RecordFault.{RecordFault}
 use Rattle.ssim_base.specs.Base.{refusal_at}
 use Rattle.ssim_records.specs.Record.{Spells, fault_of}
-use Rattle.ssim_base.specs.Problems.{Alone, After, Item, Says, Standing, alone_refusal, after_invalid, after_item, is_at_heading, fault_at, problem_in}
+use Rattle.ssim_base.specs.Problems.{Alone, After, Item, Says, Standing, alone_refusal}
+use Rattle.ssim_base.specs.Problems.{after_invalid, after_item, is_at_heading, fault_at, problem_in}
 use Rattle.ssim_base.specs.internal.Acceptance.{Accepts, HasAccepted, IsLeft, IsRecordRefused, Stays}
 use Rattle.ssim_base.specs.internal.Problems.{Finds, Passes, HasStanding, listed}
 use Rattle.ssim_base.specs.declared.data_set.acceptance.Acceptance.{Acceptance}
@@ -17,7 +18,8 @@ use Rattle.ssim_base.specs.declared.problems.Checks.{Checks}
 -- ---- a record that is offered
 
 -- a refused record leaves the state: a leg is refused before it is added
-pub left-by-put : (leg : Bool) (old new : Acceptance) (number : ℕ) (earlier : List Record) (r : Record) (e : BaseFault) → HasAccepted old earlier → IsRecordRefused number earlier r e → Stays leg old new e
+pub left-by-put : (leg : Bool) (old new : Acceptance) (number : ℕ) (earlier : List Record) (r : Record) (e : BaseFault)
+    → HasAccepted old earlier → IsRecordRefused number earlier r e → Stays leg old new e
     → (leg ≡ true → refusal_at earlier r ≡ None) → IsLeft new number earlier r e
 left-by-put leg old new number earlier r fault.Memory has is stays valid = tt
 left-by-put leg old new number earlier r (Read f) has is stays valid = absurd is
@@ -34,12 +36,16 @@ passes old new same heading heads alone (After earlier) is =
     let now : new.alone ≡ is_at_heading earlier = alone ∙ ap (λ b. b || heading) is.0 ∙ heads earlier is.1 in
     by earlier (is_at_heading earlier) refl now (subst (λ a. HasAccepted a earlier) (sym same) is.1)
   where
-    by : (earlier : List Record) (b : Bool) → is_at_heading earlier ≡ b → new.alone ≡ is_at_heading earlier → HasAccepted new.accepted earlier → HasStanding new (after_invalid earlier)
+    by : (earlier : List Record) (b : Bool) → is_at_heading earlier ≡ b
+        → new.alone ≡ is_at_heading earlier → HasAccepted new.accepted earlier
+        → HasStanding new (after_invalid earlier)
     by earlier true e now has = rw e (now ∙ e)
     by earlier false e now has = rw e (now ∙ e, has)
 
 -- a record is checked by itself
-pub found-alone : (old new : Checks) (number : ℕ) (one : Record) (problem : Option BaseFault) → new ≡ old → old.alone ≡ true → listed problem ≡ fault_at number (alone_refusal one) → Finds old new number one problem
+pub found-alone : (old new : Checks) (number : ℕ) (one : Record) (problem : Option BaseFault)
+    → new ≡ old → old.alone ≡ true → listed problem ≡ fault_at number (alone_refusal one)
+    → Finds old new number one problem
 found-alone old new number one problem same alone is Alone stands = (ap (λ c. c.alone) same ∙ alone, is)
 found-alone old new number one problem same alone is (After earlier) stands = absurd (true≢false (sym alone ∙ stands.0))
 
@@ -79,6 +85,7 @@ pub takes-fault : (old new : Checks) (before now : List BaseFault) (number : ℕ
     → now ≡ before ++ Read e ∷ [] → Adds old new before now number block
 takes-fault old new before now number block e why passed faults = (Err e, why, λ standing is. (by standing is, faults))
   where
-    by : (standing : Standing) → HasStanding old standing → HasStanding new (after_item standing (Err e))
+    by : (standing : Standing) → HasStanding old standing
+        → HasStanding new (after_item standing (Err e))
     by Alone is = passed Alone is
     by (After earlier) is = passed (After earlier) is

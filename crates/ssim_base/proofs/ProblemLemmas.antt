@@ -1,5 +1,7 @@
 -- From block to block: the problems of those so far, and what the blocks that are left still give.
-use Rattle.std.proofs.Common.{◌≡◌, ℕ, ◌+◌, ◌-◌, ◌<◌, false, ◌||◌, List, [], ◌∷◌, ◌++◌, length, Option, Some, None, Ok, Err, refl, sym, ap, subst, ◌∙◌, append_assoc, arith}
+use Rattle.std.proofs.Common.{◌≡◌, ℕ, ◌+◌, ◌-◌, ◌<◌, false, ◌||◌, List, [], ◌∷◌, ◌++◌, length}
+use Rattle.std.proofs.Common.{Option, Some, None, Ok, Err, refl, sym, ap, subst, ◌∙◌, append_assoc}
+use Rattle.std.proofs.Common.{arith}
 use Rattle.std.proofs.lemmas.List.{append-nil, length-append}
 use Rattle.std.proofs.lemmas.List.Folds.{list_any-append}
 use Rattle.std.proofs.Math.Bool.{or-false}
@@ -10,7 +12,9 @@ use Rattle.ssim_records.specs.Reading as reading
 use Rattle.ssim_records.specs.Reading.{GivesNextBlock, HasNumber, Reading, without_block}
 use Rattle.ssim_records.specs.declared.fault.RecordFault.{RecordFault}
 use Rattle.ssim_records.specs.declared.fault.RecordFault.TheVariants.{Short, BadType, BadColumn, ReadFault, ReaderNeverEnds}
-use Rattle.ssim_base.specs.Problems.{AreItems, AreProblems, After, HasProblems, Item, NamesLast, Standing, after_item, begins_as_trailer, end_problem, missing_in, fault_at, problem_in, problems_in, standing_after}
+use Rattle.ssim_base.specs.Problems.{AreItems, AreProblems, After, HasProblems, Item, NamesLast}
+use Rattle.ssim_base.specs.Problems.{Standing, after_item, begins_as_trailer, end_problem}
+use Rattle.ssim_base.specs.Problems.{missing_in, fault_at, problem_in, problems_in, standing_after}
 use Rattle.ssim_base.specs.Reading.{AreBlocks, HaveCome, NeverEnds}
 use Rattle.ssim_base.specs.internal.Problems.{IsNew, HasStanding, Takes}
 use Rattle.ssim_base.specs.declared.fault.BaseFault.TheVariants.{Read}
@@ -138,7 +142,8 @@ over-none limit all left r before t same none = let came = t.came in omega (arit
 -- the bytes end after a block
 pub problems-end : (limit : ℕ) (told left left' : Option (List ℕ)) (r new : Reading) (before : List (ℕ × List ℕ)) (found : ProblemReader) (p : Problems) → r.limit ≡ limit → (so : AreSoFar found before)
     → ToldBlocks limit told left r before → GivesNextBlock r left new left' (Ok None) → p.records ≡ found.records
-    → p.faults.items ≡ found.faults.items ++ fault_at (new.number + 1) (missing_in so.standing found.trailer) → HasProblems limit told p
+    → p.faults.items ≡ found.faults.items ++ fault_at (new.number + 1) (missing_in so.standing found.trailer)
+    → HasProblems limit told p
 problems-end limit None left left' r new before found p same so t given records faults = tt
 problems-end limit (Some all) None left' r new before found p same so t given records faults = absurd t
 problems-end limit (Some all) (Some left) None r new before found p same so t given records faults = absurd given

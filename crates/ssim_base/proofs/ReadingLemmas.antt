@@ -1,5 +1,7 @@
 -- From record to record: what was read so far, and what the blocks that are left still give.
-use Rattle.std.proofs.Common.{◌≡◌, ℕ, zero, suc, ◌+◌, ◌-◌, ◌<◌, ◌≤◌, ◌%◌, ◌^◌, false, not, nat_eq, List, [], ◌∷◌, ◌++◌, map, reverse, length, Option, Some, None, Ok, Err, inl, inr, refl, sym, ap, subst, ◌∙◌, append_assoc, arith}
+use Rattle.std.proofs.Common.{◌≡◌, ℕ, zero, suc, ◌+◌, ◌-◌, ◌<◌, ◌≤◌, ◌%◌, ◌^◌, false, not, nat_eq}
+use Rattle.std.proofs.Common.{List, [], ◌∷◌, ◌++◌, map, reverse, length, Option, Some, None, Ok}
+use Rattle.std.proofs.Common.{Err, inl, inr, refl, sym, ap, subst, ◌∙◌, append_assoc, arith}
 use Rattle.std.proofs.lemmas.List.{append-nil, reverse-append}
 use Rattle.std.proofs.lemmas.List.Elements.{All-append}
 use Rattle.std.specs.List.{All}
@@ -15,7 +17,8 @@ use Rattle.ssim_records.proofs.Framing.{takes_all}
 use Rattle.ssim_base.specs.Base.{Ending, Done, Broken, Outcome, at_record, check_notes, data_set, first_refusal, kept, kept_all, missing, note_if, notes_of, refusal_at, unless_refused}
 use Rattle.ssim_base.specs.internal.DataSetReader.{IsSoFar, notes_at, unread}
 use Rattle.ssim_base.specs.internal.Acceptance.{HasAccepted, IsRecordRefused, AcceptsNext}
-use Rattle.ssim_base.specs.Reading.{AreGiven, Begins, HaveCome, FailsAfter, FailsAs, Gives, IsAfterComplete, IsReadOf, NeverEnds, Stops}
+use Rattle.ssim_base.specs.Reading.{AreGiven, Begins, HaveCome, FailsAfter, FailsAs, Gives}
+use Rattle.ssim_base.specs.Reading.{IsAfterComplete, IsReadOf, NeverEnds, Stops}
 use Rattle.ssim_base.specs.internal.Reading.{AreGivenOf, Refuses}
 use Rattle.ssim_base.specs.ReadBack.{EachSpells}
 use Rattle.ssim_base.specs.declared.fault.BaseFault.{BaseFault}
@@ -26,7 +29,8 @@ use Rattle.ssim_base.specs.declared.data_set.reader.DataSetReader.{DataSetReader
 use Rattle.ssim_base.specs.declared.note.Note.{Note}
 use Rattle.ssim_base.specs.declared.note.Note.TheVariants.{Serial}
 use Rattle.ssim_base.proofs.BlocksAhead.{AreAhead, all-ahead, counted-bytes, rest-ahead}
-use Rattle.ssim_base.proofs.CameRecords.{After, UpTo, first-blocks, others-after, others-append, others-up-to, part-once, up-to-append, up-to-more}
+use Rattle.ssim_base.proofs.CameRecords.{After, UpTo, first-blocks, others-after, others-append}
+use Rattle.ssim_base.proofs.CameRecords.{others-up-to, part-once, up-to-append, up-to-more}
 use Rattle.ssim_base.proofs.FirstRefusals.{all_allowed}
 
 abbrev pub Numbered : Type 0
@@ -267,7 +271,9 @@ told-refused limit (Some all) (Some left) (Some left') r new g earlier done x re
 
 -- the refusal of a record, if one more was read
 pub step-refused : (limit : ℕ) (told left left' : Option (List ℕ)) (r new : Reading) (g : DataSetReader) (earlier : List Record) (done : List Numbered) (x : Numbered) (e : BaseFault)
-    → IsSoFar g earlier done → Told limit told left r done → GivesNext r left new left' (Ok (Some x)) → IsRecordRefused x.0 earlier x.1 e → IsRecord x.1 → Refuses limit told e
+    → IsSoFar g earlier done → Told limit told left r done
+    → GivesNext r left new left' (Ok (Some x)) → IsRecordRefused x.0 earlier x.1 e → IsRecord x.1
+    → Refuses limit told e
 step-refused limit told left left' r new g earlier done x fault.Memory so_far t given is valid = tt
 step-refused limit told left left' r new g earlier done x (Read f) so_far t given is valid = absurd is
 step-refused limit told left left' r new g earlier done x (Refused n refusal) so_far t given is valid =
@@ -296,7 +302,8 @@ ended-beyond limit told left left' start now r new done (ReaderNeverEnds n) same
     came-in limit told left left' start now (limit + 1) r new done (Err (ReaderNeverEnds n)) (sym (over.0 ∙ ap (λ k. k + 1) same)) t given counts
 
 -- a record is never refused as 14
-pub never-refused : (limit : ℕ) (CameFrom : ℕ → Type 0) (n : ℕ) (earlier : List Record) (r : Record) (e : BaseFault) → IsRecordRefused n earlier r e → NeverEnds limit CameFrom e
+pub never-refused : (limit : ℕ) (CameFrom : ℕ → Type 0) (n : ℕ) (earlier : List Record) (r : Record) (e : BaseFault)
+    → IsRecordRefused n earlier r e → NeverEnds limit CameFrom e
 never-refused limit CameFrom n earlier r fault.Memory is = tt
 never-refused limit CameFrom n earlier r (Read f) is = absurd is
 never-refused limit CameFrom n earlier r (Refused m refusal) is = tt
@@ -399,7 +406,8 @@ fails-after limit told left left' r new g earlier done (ReaderNeverEnds n) so t 
     few = tt
 
 -- a record is never refused as 13
-pub never-fails : (all left : Option (List ℕ)) (n : ℕ) (earlier : List Record) (r : Record) (e : BaseFault) → IsRecordRefused n earlier r e → FailsAfter all left e
+pub never-fails : (all left : Option (List ℕ)) (n : ℕ) (earlier : List Record) (r : Record) (e : BaseFault)
+    → IsRecordRefused n earlier r e → FailsAfter all left e
 never-fails all left n earlier r fault.Memory is = tt
 never-fails all left n earlier r (Read f) is = absurd is
 never-fails all left n earlier r (Refused m refusal) is = tt

@@ -1,5 +1,7 @@
 -- After the last record or a fault a reader is read to its end: what the rest of its bytes adds.
-use Rattle.std.proofs.Common.{◌≡◌, ℕ, ◌+◌, ◌-◌, ◌≤◌, ◌%◌, ◌^◌, true, false, List, [], ◌∷◌, ◌++◌, length, reverse, Option, Some, None, Ok, Err, inl, inr, refl, sym, ap, subst, ◌∙◌, append_assoc, arith}
+use Rattle.std.proofs.Common.{◌≡◌, ℕ, ◌+◌, ◌-◌, ◌≤◌, ◌%◌, ◌^◌, true, false, List, [], ◌∷◌, ◌++◌}
+use Rattle.std.proofs.Common.{length, reverse, Option, Some, None, Ok, Err, inl, inr, refl, sym, ap}
+use Rattle.std.proofs.Common.{subst, ◌∙◌, append_assoc, arith}
 use Rattle.std.specs.Prelude.{IfSome}
 use Rattle.std.specs.Io.KnownBytes.{IsAtEnd}
 use Rattle.ssim_records.specs.Blocks.{CameOn, CountGoesOn, CountsOn, Fetches, StaysLeft}
@@ -7,13 +9,16 @@ use Rattle.ssim_records.specs.Frames.{others}
 use Rattle.ssim_records.specs.Device.{Reader}
 use Rattle.ssim_records.specs.Reading.{Reading, HasNumber, RestFails}
 use Rattle.ssim_records.specs.declared.fault.RecordFault.{RecordFault}
-use Rattle.ssim_records.specs.declared.fault.RecordFault.TheVariants.{Short, BadType, BadColumn, ReadFault, ReaderNeverEnds}
+use Rattle.ssim_records.specs.declared.fault.RecordFault.TheVariants.{Short, BadType, BadColumn}
+use Rattle.ssim_records.specs.declared.fault.RecordFault.TheVariants.{ReadFault, ReaderNeverEnds}
 use Rattle.ssim_records.specs.declared.record.Record.{Record}
 use Rattle.ssim_records.proofs.FrameLaws.{frames_exist}
 use Rattle.ssim_base.specs.Base.{Done, missing}
 use Rattle.ssim_base.specs.internal.Acceptance.{IsRecordRefused}
 use Rattle.ssim_base.specs.internal.DataSetReader.{HasRead}
-use Rattle.ssim_base.specs.Reading.{AreComplete, Came, HaveCome, FailsAfter, FailsAs, Gives, IsAfterInvalid, IsReadOf, IsRecordAfter, NamesNext, NeverEnds, RefusesReading, RefusesWhole, is_of_bytes}
+use Rattle.ssim_base.specs.Reading.{AreComplete, Came, HaveCome, FailsAfter, FailsAs, Gives}
+use Rattle.ssim_base.specs.Reading.{IsAfterInvalid, IsReadOf, IsRecordAfter, NamesNext, NeverEnds}
+use Rattle.ssim_base.specs.Reading.{RefusesReading, RefusesWhole, is_of_bytes}
 use Rattle.ssim_base.specs.internal.Reading.{AreGivenOf, Refuses}
 use Rattle.ssim_base.specs.declared.fault.BaseFault.{BaseFault}
 use Rattle.ssim_base.specs.declared.fault.BaseFault.TheVariants as fault
@@ -117,7 +122,8 @@ other-refused limit told (Read (ReaderNeverEnds n)) is = tt
 other-refused limit told (Refused n refusal) is = absurd cc
 
 -- a fault of the bytes counts no failure
-pub bytes-count : (old new : ℕ) (e : BaseFault) → is_of_bytes e ≡ true → FailsAs old new e → new ≡ old
+pub bytes-count : (old new : ℕ) (e : BaseFault) → is_of_bytes e ≡ true → FailsAs old new e
+    → new ≡ old
 bytes-count old new fault.Memory is h = h
 bytes-count old new (Read (Short n)) is h = h
 bytes-count old new (Read (BadType n)) is h = h
@@ -193,7 +199,8 @@ rest-other limit told r old new (ReaderNeverEnds n) h = tt
 
 -- a refused record has the number of the records that were counted
 pub after-refused : (number n : ℕ) (earlier : List Record) (r : Record) (e : BaseFault)
-    → IsRecordRefused n earlier r e → n ≡ number → is_of_bytes e ≡ true → IsRecordAfter e (number + 1)
+    → IsRecordRefused n earlier r e → n ≡ number → is_of_bytes e ≡ true
+    → IsRecordAfter e (number + 1)
 after-refused number n earlier r fault.Memory is same of_bytes = absurd cc
 after-refused number n earlier r (Read f) is same of_bytes = absurd is
 after-refused number n earlier r (Refused m refusal) is same of_bytes =

@@ -21,7 +21,11 @@ use Rattle.ssim_records.specs.Segment.{IsTail}
 use Rattle.ssim_records.specs.declared.record.Record.{Record}
 use Rattle.ssim_records.specs.declared.record.Record.TheVariants.{Header, Carrier, Leg, Segment, Trailer}
 use Rattle.ssim_base.specs.Timetable.{LegValue, Legs, Days, on_day, Above}
-use Rattle.ssim_base.specs.Export.{Frame, Piece, same_itinerary, pieces, tail_record, leg_records, piece_records, pieces_records, flight_records, flights_records, flight_count, flight_at, all_flights, fill_count, with_serial, numbered, sections, ExportRefusal, Variations, Records, export_refusal, export_unless_refused, chapter7_records}
+use Rattle.ssim_base.specs.Export.{Frame, Piece, same_itinerary, pieces, tail_record, leg_records}
+use Rattle.ssim_base.specs.Export.{piece_records, pieces_records, flight_records, flights_records}
+use Rattle.ssim_base.specs.Export.{flight_count, flight_at, all_flights, fill_count, with_serial}
+use Rattle.ssim_base.specs.Export.{numbered, sections, ExportRefusal, Variations, Records}
+use Rattle.ssim_base.specs.Export.{export_refusal, export_unless_refused, chapter7_records}
 use Rattle.ssim_base.specs.ReadBack.{IsTimetable, IsWritable, AreWritable, IsWritableFrame, section_items, items_of}
 use Rattle.ssim_base.proofs.Each.{each-append, each-both}
 use Rattle.ssim_base.proofs.Places.{flight-is}
@@ -281,7 +285,8 @@ each-place : (P : FlightNumber → Type 0) (low k : ℕ) → ((j : ℕ) → j < 
 each-place P low zero h = tt
 each-place P low (suc k) h = (h low (omega arith), each-place P (low + 1) k (λ j l. h j (omega arith)))
 
-no_refusal : (o : Option ExportRefusal) (s t : List (List Record)) → export_unless_refused o s ≡ Ok t → o ≡ None
+no_refusal : (o : Option ExportRefusal) (s t : List (List Record))
+    → export_unless_refused o s ≡ Ok t → o ≡ None
 no_refusal None s t h = refl
 no_refusal (Some refusal) s t h = absurd cc
 

@@ -11,7 +11,11 @@ use Rattle.ssim_records.specs.declared.record.Record.{Record}
 use Rattle.ssim_records.specs.declared.record.Record.TheVariants.{Header, Carrier, Leg, Segment, Trailer}
 use Rattle.ssim_base.specs.Timetable.{LegValue, Legs, Days, itinerary, days_of, on_day}
 use Rattle.ssim_base.specs.Base.{kept, kept_all}
-use Rattle.ssim_base.specs.Export.{Frame, Piece, ExportRefusal, Variations, Records, pieces, tail_record, leg_records, pieces_records, flight_records, flights_records, flight_count, flight_at, all_flights, with_serial, numbered, sections, export_refusal, export_unless_refused, chapter7_records}
+use Rattle.ssim_base.specs.Export.{Frame, Piece, ExportRefusal, Variations, Records, pieces}
+use Rattle.ssim_base.specs.Export.{tail_record, leg_records, pieces_records, flight_records}
+use Rattle.ssim_base.specs.Export.{flights_records, flight_count, flight_at, all_flights}
+use Rattle.ssim_base.specs.Export.{with_serial, numbered, sections, export_refusal}
+use Rattle.ssim_base.specs.Export.{export_unless_refused, chapter7_records}
 use Rattle.ssim_base.specs.ReadBack.{IsTimetable, records_of, base_of, kept_frame, HasFrame, place_of}
 use Rattle.ssim_base.proofs.ExportLaws.{ExportsAgain, ReadsBack, SameExport}
 use Rattle.ssim_base.proofs.Each.{each-map}
@@ -55,7 +59,8 @@ base-is frame body h =
     let second : Record = Carrier (record frame.carrier { serial = 0 }) in
     ap (λ rs. top ∷ second ∷ rs) (kept-body (second ∷ top ∷ []) 3 body (record frame.trailer { check = 2 + length body; serial = 3 + length body }) h)
 
-pub exported : (o : Option ExportRefusal) (s t : List (List Record)) → export_unless_refused o s ≡ Ok t → s ≡ t
+pub exported : (o : Option ExportRefusal) (s t : List (List Record))
+    → export_unless_refused o s ≡ Ok t → s ≡ t
 exported None s t h = cc
 exported (Some refusal) s t h = cc
 

@@ -53,7 +53,8 @@ module _ {X : Type 0} (field : FlightPeriods → X) where
           absurd (apart (ap (λ n. n / 1024) (sym same) ∙ are.0))
       by false e rest = rest
 
-  found-before : (other : X) (k : ℕ) (blocks : List Table) (q : FlightNumber) → AreBlocks k blocks → block_of q < k → found field other (all_entries blocks) q ≡ other
+  found-before : (other : X) (k : ℕ) (blocks : List Table) (q : FlightNumber) → AreBlocks k blocks
+      → block_of q < k → found field other (all_entries blocks) q ≡ other
   found-before other k [] q are less = refl
   found-before other k (b ∷ blocks) q are less =
       found-joined other b (all_entries blocks) q
@@ -72,7 +73,9 @@ module _ {X : Type 0} (field : FlightPeriods → X) where
       ∙ found-block other (k + 1) blocks j q are.1 (omega (arith, its))
 
   -- what a flight has is in its block
-  pub found_block : (other : X) (blocks : List Table) (j : ℕ) (q : FlightNumber) → AreBlocks 0 blocks → j ≡ block_of q → found field other (get_or blocks j []) q ≡ found field other (all_entries blocks) q
+  pub found_block : (other : X) (blocks : List Table) (j : ℕ) (q : FlightNumber)
+      → AreBlocks 0 blocks → j ≡ block_of q
+      → found field other (get_or blocks j []) q ≡ found field other (all_entries blocks) q
   found_block other blocks j q are its = sym (found-block other 0 blocks j q are (omega (arith, its)))
 
   -- the same of blocks that are seen as one table
@@ -107,15 +110,18 @@ block_at blocks j are within = subst (λ n. IsBlock n (get_or blocks j [])) (ome
 -- what holds of each flight's entry in the old block and in the new one, and of entries of other
 -- blocks, which stay, holds of all
 module _ {X : Type 0} (field : FlightPeriods → X) (other : X) (P : FlightNumber → X → X → Type 0) where
-  pub each_flight : (blocks : List Table) (j : ℕ) (held new now : Table) → AreBlocks 0 blocks → j < length blocks → held ≡ get_or blocks j [] → all_entries blocks ≡ now → IsBlock j new
+  pub each_flight : (blocks : List Table) (j : ℕ) (held new now : Table) → AreBlocks 0 blocks
+      → j < length blocks → held ≡ get_or blocks j [] → all_entries blocks ≡ now → IsBlock j new
       → ((g : FlightNumber) → P g (found field other held g) (found field other new g)) → ((g : FlightNumber) → block_of g ≢ j → (x : X) → P g x x)
-      → (g : FlightNumber) → P g (found field other now g) (found field other (all_entries (set blocks j new)) g)
+      → (g : FlightNumber)
+      → P g (found field other now g) (found field other (all_entries (set blocks j new)) g)
   each_flight blocks j held new now are within is_held is_now its each apart g = by (cases_eq (block_of g) j)
     where
       after : AreBlocks 0 (set blocks j new)
       after = blocks_set blocks j new are its
 
-      by : (block_of g ≡ j) ⊎ (block_of g ≢ j) → P g (found field other now g) (found field other (all_entries (set blocks j new)) g)
+      by : (block_of g ≡ j) ⊎ (block_of g ≢ j)
+          → P g (found field other now g) (found field other (all_entries (set blocks j new)) g)
       by (inl here) =
           let new_is : found field other new g ≡ found field other (all_entries (set blocks j new)) g =
           ap (λ (t : Table). found field other t g) (sym (get_or-set_same blocks j new [] within)) ∙ found_block field other (set blocks j new) j g after (sym here) in
@@ -146,11 +152,13 @@ key-front a b i within = ap (λ (f : FlightPeriods). place_of f.flight) (get_or_
 key-back : (a b : Table) (i : ℕ) → length a ≤ i → key_at (a ++ b) i ≡ key_at b (i - length a)
 key-back a b i le = ap (λ (f : FlightPeriods). place_of f.flight) (get_or-append_right a b (length a) i no_entry refl le)
 
-from-key : (k : ℕ) (blocks : List Table) → AreBlocks k blocks → (i : ℕ) → i < length (all_entries blocks) → k ≤ key_at (all_entries blocks) i / 1024
+from-key : (k : ℕ) (blocks : List Table) → AreBlocks k blocks → (i : ℕ)
+    → i < length (all_entries blocks) → k ≤ key_at (all_entries blocks) i / 1024
 from-key k [] are i within = absurd (omega (arith, within))
 from-key k (b ∷ blocks) are i within = by (from-key (k + 1) blocks are.1) (cases_lt i (length b))
   where
-    by : ((n : ℕ) → n < length (all_entries blocks) → k + 1 ≤ key_at (all_entries blocks) n / 1024) → (i < length b) ⊎ (length b ≤ i) → k ≤ key_at (b ++ all_entries blocks) i / 1024
+    by : ((n : ℕ) → n < length (all_entries blocks) → k + 1 ≤ key_at (all_entries blocks) n / 1024)
+        → (i < length b) ⊎ (length b ≤ i) → k ≤ key_at (b ++ all_entries blocks) i / 1024
     by rest (inl front) =
         let here = of_key k b i are.0.its front in
         subst (λ n. k ≤ n / 1024) (sym (key-front b (all_entries blocks) i front)) (omega (arith, here))
@@ -166,7 +174,9 @@ rising-joined k (b ∷ blocks) are i j less within = by (rising-joined (k + 1) b
     long : length (b ++ all_entries blocks) ≡ length b + length (all_entries blocks)
     long = length-append b (all_entries blocks)
 
-    by : AreRising (all_entries blocks) → (i < length b) ⊎ (length b ≤ i) → (j < length b) ⊎ (length b ≤ j) → key_at (b ++ all_entries blocks) i < key_at (b ++ all_entries blocks) j
+    by : AreRising (all_entries blocks) → (i < length b) ⊎ (length b ≤ i)
+        → (j < length b) ⊎ (length b ≤ j)
+        → key_at (b ++ all_entries blocks) i < key_at (b ++ all_entries blocks) j
     by rest x (inl j_front) =
         let i_is = key-front b (all_entries blocks) i (omega (arith, less, j_front)) in
         let j_is = key-front b (all_entries blocks) j j_front in

@@ -11,7 +11,10 @@ use Rattle.ssim_records.specs.Device.{Writer}
 use Rattle.ssim_records.specs.declared.record.Record.{Record}
 use Rattle.ssim_base.specs.Timetable.{Days, same_flight}
 use Rattle.ssim_base.specs.Export as refusal
-use Rattle.ssim_base.specs.Export.{ExportRefusal, Frame, flight_at, Piece, pieces, pieces_records, flight_records, flights_records, export_refusal, export_of, chapter7, chapter7_records, sections, export_unless_refused, result_map, export_bytes}
+use Rattle.ssim_base.specs.Export.{ExportRefusal, Frame, flight_at, Piece, pieces, pieces_records}
+use Rattle.ssim_base.specs.Export.{flight_records, flights_records, export_refusal, export_of}
+use Rattle.ssim_base.specs.Export.{chapter7, chapter7_records, sections, export_unless_refused}
+use Rattle.ssim_base.specs.Export.{result_map, export_bytes}
 use Rattle.ssim_schedule.specs.internal.Blocks.{all_entries}
 use Rattle.ssim_schedule.specs.FlightPieces.{Divided}
 use Rattle.ssim_schedule.specs.internal.Plan.{IsRefusedAs, pieces_count, plan_bytes, plan_count, plan_of, plan_records, plan_refusal}
@@ -46,13 +49,16 @@ planned_left left rest f plan new all ps is its push before =
     ∙ ap (λ (xs : Table). plan ++ plan_of xs) (sym is) ∙ before
 
 -- a block is planned, of those that are left
-pub planned_block : (left rest : List Table) (b : Table) (plan new all : List Divided) → left ≡ b ∷ rest → new ≡ plan ++ plan_of b → plan ++ plan_of (all_entries left) ≡ all → new ++ plan_of (all_entries rest) ≡ all
+pub planned_block : (left rest : List Table) (b : Table) (plan new all : List Divided)
+    → left ≡ b ∷ rest → new ≡ plan ++ plan_of b → plan ++ plan_of (all_entries left) ≡ all
+    → new ++ plan_of (all_entries rest) ≡ all
 planned_block left rest b plan new all is added before =
     ap (λ (xs : List Divided). xs ++ plan_of (all_entries rest)) added ∙ append_assoc plan (plan_of b) (plan_of (all_entries rest))
     ∙ ap (λ (xs : List Divided). plan ++ xs) (sym (plan-append b (all_entries rest)) ∙ ap (λ (ts : List Table). plan_of (all_entries ts)) (sym is)) ∙ before
 
 -- the flights of the current block exist, and those of the blocks after it
-pub block_exists : (G : Type 0) (left rest : List Table) (b : Table) → left ≡ b ∷ rest → All (λ f. IsFlight f.flight) b → (All (λ f. IsFlight f.flight) (all_entries left) → G)
+pub block_exists : (G : Type 0) (left rest : List Table) (b : Table) → left ≡ b ∷ rest
+    → All (λ f. IsFlight f.flight) b → (All (λ f. IsFlight f.flight) (all_entries left) → G)
     → All (λ f. IsFlight f.flight) (all_entries rest) → G
 block_exists G left rest b is here all others =
     all (subst (λ (ts : List Table). All (λ f. IsFlight f.flight) (all_entries ts)) (sym is) (All-append (λ (f : FlightPeriods). IsFlight f.flight) b (all_entries rest) here others))

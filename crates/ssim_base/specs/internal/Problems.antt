@@ -2,7 +2,8 @@
 use Rattle.std.specs.Prelude.{◌≡◌, ℕ, true, false, List, [], ◌∷◌, ◌++◌, Option, Some, None, Ok}
 use Rattle.ssim_records.specs.declared.record.Record.{Record}
 use Rattle.ssim_base.specs.internal.Acceptance.{HasAccepted}
-use Rattle.ssim_base.specs.Problems.{Alone, After, Item, Says, Standing, after_invalid, after_item, fault_at, problem_in, refusal_in}
+use Rattle.ssim_base.specs.Problems.{Alone, After, Item, Says, Standing, after_invalid, after_item}
+use Rattle.ssim_base.specs.Problems.{fault_at, problem_in, refusal_in}
 use Rattle.ssim_base.specs.declared.fault.BaseFault.{BaseFault}
 use Rattle.ssim_base.specs.declared.problems.Checks as declared
 use Rattle.ssim_base.specs.declared.problems.ProblemReader.{ProblemReader}

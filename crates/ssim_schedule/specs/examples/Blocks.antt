@@ -17,7 +17,8 @@ last_block = refl
 abbrev entry : ℕ → FlightPeriods
 entry number = record { flight = numbered_flight number 32; periods = record { days = []; cuts = [] } }
 
-three_blocks : all_entries ((entry 1 ∷ entry 2 ∷ []) ∷ [] ∷ (entry 544 ∷ []) ∷ []) ≡ entry 1 ∷ entry 2 ∷ entry 544 ∷ []
+three_blocks : all_entries ((entry 1 ∷ entry 2 ∷ []) ∷ [] ∷ (entry 544 ∷ []) ∷ [])
+    ≡ entry 1 ∷ entry 2 ∷ entry 544 ∷ []
 three_blocks = refl
 
 own_flights : AreOf 0 (entry 1 ∷ entry 2 ∷ [])

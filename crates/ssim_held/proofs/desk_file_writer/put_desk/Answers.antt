@@ -1,6 +1,7 @@
 -- The base, the texts and the last line, one after another, and then what the buffer holds.
 use Rattle.std.proofs.Common.{[], Result, Ok, Err, refl}
-use Rattle.ssim_base.proofs.SinkLemmas.{all_fail, from_empty, next_breaks, next_put, puts_all, puts_then}
+use Rattle.ssim_base.proofs.SinkLemmas.{all_fail, from_empty, next_breaks, next_put, puts_all}
+use Rattle.ssim_base.proofs.SinkLemmas.{puts_then}
 use Rattle.ssim_held.proofs.FileParts.{desk_file-split}
 use Rattle.ssim_held.proofs.desk_file_writer.put_desk.Goals as goal
 

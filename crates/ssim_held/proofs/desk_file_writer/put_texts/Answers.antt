@@ -1,7 +1,8 @@
 -- The line with the number, and then each message.
 use Rattle.std.proofs.Common.{refl}
 use Rattle.ssim_base.proofs.SinkLemmas.{next_fails, none_put}
-use Rattle.ssim_held.proofs.FileParts.{each_put, element_fails, element_put, elements_first, elements_put}
+use Rattle.ssim_held.proofs.FileParts.{each_put, element_fails, element_put, elements_first}
+use Rattle.ssim_held.proofs.FileParts.{elements_put}
 use Rattle.ssim_held.proofs.desk_file_writer.put_texts.Goals as goal
 
 pub returns-in_err-put_counted-clause-puts : goal.returns-in_err-put_counted-clause-puts

@@ -10,7 +10,10 @@ use Rattle.ssim_base.specs.Reading.{Came}
 use Rattle.ssim_base.specs.internal.Reading.{AreGivenOf}
 use Rattle.ssim_base.specs.declared.fault.BaseFault.TheVariants.{Memory}
 use Rattle.ssim_base.proofs.BlocksAhead.{counted-first, fetched-first, fetched-on, while-open}
-use Rattle.ssim_base.proofs.ReadingLemmas.{Numbered, Told, came-in, ended-beyond, fails-after, fault-fails, never-refused, never-fails, refused-fails, step-refused, nothing, one-more, told-end, told-fault, told-first, told-step}
+use Rattle.ssim_base.proofs.ReadingLemmas.{Numbered, Told, came-in, ended-beyond, fails-after}
+use Rattle.ssim_base.proofs.ReadingLemmas.{fault-fails, never-refused, never-fails, refused-fails}
+use Rattle.ssim_base.proofs.ReadingLemmas.{step-refused, nothing, one-more, told-end, told-fault}
+use Rattle.ssim_base.proofs.ReadingLemmas.{told-first, told-step}
 use Rattle.ssim_base.proofs.RestLemmas.{after-fault, after-refused}
 use Rattle.ssim_base.proofs.data_set.reader.read_records.Given as context
 use Rattle.ssim_base.proofs.data_set.reader.read_records.Goals.{After-next_into}

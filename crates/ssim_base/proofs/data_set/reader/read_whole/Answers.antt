@@ -4,7 +4,9 @@ use Rattle.std.proofs.Common.{◌≤◌, ℕ, ap, sym, subst, ◌∙◌}
 use Rattle.ssim_records.specs.Reading.{Reading}
 use Rattle.ssim_base.specs.Reading.{Came, NeverEnds}
 use Rattle.ssim_base.specs.internal.Reading.{Refuses}
-use Rattle.ssim_base.proofs.RestLemmas.{bytes-count, bytes-end, bytes-fail, names-first, names-own, names-rest, other-refused, rest-ends, rest-fails, rest-other, rest-refused}
+use Rattle.ssim_base.proofs.RestLemmas.{bytes-count, bytes-end, bytes-fail, names-first, names-own}
+use Rattle.ssim_base.proofs.RestLemmas.{names-rest, other-refused, rest-ends, rest-fails}
+use Rattle.ssim_base.proofs.RestLemmas.{rest-other, rest-refused}
 use Rattle.ssim_base.proofs.data_set.reader.read_whole.Goals as goal
 
 pub returns-then-not-is_of_bytes-clause-err : goal.returns-then-not-is_of_bytes-clause-err

@@ -10,6 +10,7 @@ use Rattle.ssim_schedule.proofs.export.plan.divide.Given as goal
 abbrev pub invariant-loop-block : goal.invariant-loop-block
 invariant-loop-block l = record {
   plan : l.plan.items ++ plan_of (all_entries (into_iter_items l.block-iterator)) ≡ plan_of (all_entries l.fn.blocks.items);
-  flights : All (λ f. IsFlight f.flight) (all_entries (into_iter_items l.block-iterator)) → All (λ f. IsFlight f.flight) (all_entries l.fn.blocks.items);
+  flights : All (λ f. IsFlight f.flight) (all_entries (into_iter_items l.block-iterator))
+      → All (λ f. IsFlight f.flight) (all_entries l.fn.blocks.items);
   left : into_iter_len l.block-iterator ≡ length (into_iter_items l.block-iterator);
 }

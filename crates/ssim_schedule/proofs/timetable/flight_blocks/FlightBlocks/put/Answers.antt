@@ -1,5 +1,6 @@
 -- The block of the flight is changed; the others stay.
-use Rattle.std.proofs.Common.{◌≡◌, ◌<◌, Bool, nat_eq, if◌then◌else◌, [], length, get_or, set, sym, ap, subst, ◌∙◌, arith, length-set}
+use Rattle.std.proofs.Common.{◌≡◌, ◌<◌, Bool, nat_eq, if◌then◌else◌, [], length, get_or, set, sym}
+use Rattle.std.proofs.Common.{ap, subst, ◌∙◌, arith, length-set}
 use Rattle.std.proofs.lemmas.List.{get_or_default}
 use Rattle.ssim_values.specs.Flight.{FlightNumber}
 use Rattle.ssim_schedule.specs.internal.Blocks.{IsBlock, all_entries}

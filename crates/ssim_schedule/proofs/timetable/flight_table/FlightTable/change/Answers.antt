@@ -1,15 +1,18 @@
 -- An entry that is changed keeps its flight, and so the order, and a new entry in its gap keeps the
 -- order; what its flight has alone is changed.
-use Rattle.std.proofs.Common.{◌≡◌, ◌+◌, ◌/◌, nat_eq, if◌then◌else◌, sym, ap, subst, ◌∙◌, get_or, set}
+use Rattle.std.proofs.Common.{◌≡◌, ◌+◌, ◌/◌, nat_eq, if◌then◌else◌, sym, ap, subst, ◌∙◌, get_or}
+use Rattle.std.proofs.Common.{set}
 use Rattle.std.proofs.lemmas.List.{get_or_default}
 use Rattle.ssim_periods.specs.Calendar.{holds}
 use Rattle.ssim_periods.specs.Days.{AddsOnly, Seen, changed_on, counts_on}
 use Rattle.ssim_base.specs.ReadBack.{place_of}
 use Rattle.ssim_base.specs.Timetable.{Legs}
-use Rattle.ssim_schedule.specs.internal.Table.{AddsOnlyAt, AreRising, IsAt, Table, no_entry, table_cuts, table_days}
+use Rattle.ssim_schedule.specs.internal.Table.{AddsOnlyAt, AreRising, IsAt, Table, no_entry}
+use Rattle.ssim_schedule.specs.internal.Table.{table_cuts, table_days}
 use Rattle.ssim_schedule.proofs.ChangeLemmas.{cuts-insert, cuts-set, days-insert, days-set, days_at, no_days, own}
 use Rattle.ssim_base.proofs.Results.{if_ok, on_ok}
-use Rattle.ssim_schedule.proofs.TableLemmas.{entry_has, found_in_gap, is_at, is_gap, rising_insert, rising_set}
+use Rattle.ssim_schedule.proofs.TableLemmas.{entry_has, found_in_gap, is_at, is_gap, rising_insert}
+use Rattle.ssim_schedule.proofs.TableLemmas.{rising_set}
 use Rattle.ssim_schedule.specs.internal.Blocks.{IsBlock}
 use Rattle.ssim_schedule.proofs.BlockLemmas.{block_insert, block_set}
 use Rattle.ssim_schedule.proofs.timetable.flight_table.FlightTable.change.Given as given

@@ -6,7 +6,8 @@ use Rattle.ssim_schedule.specs.internal.Table.{AreRising, Table}
 use Rattle.ssim_schedule.specs.internal.Blocks.{IsBlock}
 use Rattle.ssim_schedule.proofs.BlockLemmas.{block_insert, block_set}
 use Rattle.ssim_schedule.proofs.ChangeLemmas.{cuts_at, days_at, no_days}
-use Rattle.ssim_schedule.proofs.TableLemmas.{insert_has, is_at, is_gap, rising_insert, rising_set, set_has}
+use Rattle.ssim_schedule.proofs.TableLemmas.{insert_has, is_at, is_gap, rising_insert, rising_set}
+use Rattle.ssim_schedule.proofs.TableLemmas.{set_has}
 use Rattle.ssim_schedule.proofs.timetable.flight_table.FlightTable.put.Goals as goal
 
 -- ---- the flight has an entry
