@@ -213,6 +213,30 @@ class Run:
         return statuses[0], answers[0], found
 
 
+    def of_occupied(self, name, words, given):
+        """How the answer of the program differs whose OUT is a file of another kind; the other program has no such refusal."""
+        before = contents(self.folders[0])
+        answer = self.once(0, words, given, False)
+        expected = (1, b"", f"refused 93 Occupied {name}\n".encode())
+        found = [f"{shown(answer)} and {shown(expected)}"] if answer != expected else []
+        return answer[0], answer, found + (["a file changed"] if contents(self.folders[0]) != before else [])
+
+
+def occupied(folder, words):
+    """The file that a command line names as OUT, if it is there and neither a desk file nor empty."""
+    plain = [word for place, word in enumerate(words) if word != "--" or "--" in words[:place]]
+    place = {"start": 3, "take": 2, "merge": 3}.get(plain[0] if plain else "")
+    count = len(plain) >= 4 if plain[:1] == ["take"] else len(plain) == 4
+    if place is None or not count or any(word.startswith("-") and word != "-" for word in words if word != "--"):
+        return None
+    path = os.path.join(folder, plain[place])
+    if plain[place] == "-" or not os.path.isfile(path):
+        return None
+    with open(path, "rb") as file:
+        data = file.read(9)
+    return plain[place] if data and data != b"SSIMDESK " else None
+
+
 def is_own(words, answers):
     """Whether the program chooses the words that it prints: help, and command lines that are not valid."""
     asked = any(word in ("-h", "--help") for word in words) or words[:1] == ["help"]
@@ -263,7 +287,8 @@ def sequence(rng, run, counts):
         given = rng.choice(sorted(name for name in contents(run.folders[0])))
         with open(os.path.join(run.folders[0], given), "rb") as file:
             data = file.read()
-        status, answer, found = run.both(words, data, rng.random() < 0.03)
+        full, name = rng.random() < 0.03, occupied(run.folders[0], words)
+        status, answer, found = run.of_occupied(name, words, data) if name else run.both(words, data, full)
         count(counts, words, status, answer)
         if found:
             return [f"{' '.join(words)} < {given}", *found]

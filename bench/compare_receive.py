@@ -103,6 +103,7 @@ def compared(rng, run, texts):
     words = collections.Counter(answer.split()[0] for answer in answers)
     expected.append(f"taken {words['taken']} repeated {words['repeated']} refused {words['refused']}")
     run.write("received.desk", run.start)
+    run.write("back", b"")
     status, out, err = run("receive", "--refused", "back", "received.desk", "received.desk", *names)
     found = []
     if (status, err) != (0, "") or out.decode("latin-1") != "".join(line + "\n" for line in expected):

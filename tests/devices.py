@@ -7,7 +7,9 @@ can be made. Then each call that a run makes to the system fails in turn, and ea
 one byte; or the program is killed at it. Compared are the status, both outputs and all files. No run ends by a signal but
 those that are killed. The last line is 'N passed, M failed'.
 """
+import contextlib
 import errno
+import fcntl
 import os
 import resource
 import shutil
@@ -215,18 +217,21 @@ class Devices:
         self.expect("a link stays", [*words, "made_link"], 0, b"held 0\n", b"", {"old": held})
         self.count("a link stays", not os.path.islink(self.path("made_link")) and "it is no link")
         os.unlink(self.path("made_link"))
-        for target in "missing", "made_link":
-            os.symlink(target, self.path("made_link"))
-            self.expect("a link leads nowhere", [*words, "made_link"], 1, b"", file_fault("made_link"))
-            os.unlink(self.path("made_link"))
-        parts = [f"old.{number}.part" for number in range(100)]
-        self.part_files(parts[:3])
-        self.expect("names beside the file are taken", [*words, "old"], 0, b"held 0\n", b"", {"old": held, **dict.fromkeys(parts[:3], b"")})
-        self.part_files(parts)
-        self.expect("all names beside the file are taken", [*words, "old"], 1, b"", file_fault("old"), dict.fromkeys(parts, b""))
-
-    def part_files(self, names):
-        self.runs.write(dict.fromkeys(names, b""))
+        os.symlink("missing", self.path("made_link"))
+        self.expect("a link gets its target", [*words, "made_link"], 0, b"held 0\n", b"", {"missing": held})
+        os.unlink(self.path("made_link"))
+        os.symlink("made_link", self.path("made_link"))
+        self.expect("a link leads to itself", [*words, "made_link"], 1, b"", file_fault("made_link"))
+        os.unlink(self.path("made_link"))
+        parts = {f"old.{number}.part": b"left" for number in range(100)}
+        self.runs.write(parts)
+        self.expect("a part is taken over", [*words, "old"], 0, b"held 0\n", b"", {"old": held, **dict(list(parts.items())[1:])})
+        with contextlib.ExitStack() as stack:
+            self.runs.write(parts)
+            for name in parts:
+                part = stack.enter_context(open(self.path(name), "rb"))
+                fcntl.flock(part, fcntl.LOCK_EX)
+            self.expect("all parts are being written", [*words, "old"], 1, b"", file_fault("old"), parts)
 
     def short_of_room(self):
         """A file may not grow: the write fails, or the signal for it is ignored."""
@@ -322,7 +327,7 @@ class Devices:
                 self.count(f"{name} is killed at call {number}", wrong, sorted(answer.files))
                 self.runs.put_back(files)
                 again = self.runs.run(words)
-                same = (again.status, again.out, {**again.files, **answer.files, kept: whole.files[kept]}) == (0, whole.out, again.files)
+                same = (again.status, again.out, again.files) == (0, whole.out, whole.files)
                 self.count(f"{name} after it was killed at call {number}", not same and "another answer", again.status, again.err)
                 self.runs.put_back(self.runs.files())
                 if answer.refused == 0:

@@ -101,7 +101,7 @@ class Runs:
         self.told = os.path.join(self.room.name, "told")
         os.mkdir(self.folder)
         self.write({name: text.encode() for name, text in TEXTS.items()})
-        self.write({"script": SCRIPT.encode(), "old": b"an old file\n", "stations": b"ZRH 30MAR25 25OCT25 +0200\nLHR 30MAR25 25OCT25 +0100\n"})
+        self.write({"script": SCRIPT.encode(), "old": b"SSIMDESK of another office\n", "stations": b"ZRH 30MAR25 25OCT25 +0200\nLHR 30MAR25 25OCT25 +0100\n"})
         with open(os.path.join(HERE, "program", "divided.ssim"), "rb") as file:
             lines = file.read().splitlines(keepends=True)
         self.write({"season": b"".join(lines), "overlap": b"".join([*lines[:3], *lines[2:]]), "cut": TEXTS["later"][:60].encode(),

@@ -4,7 +4,7 @@ use crate::devices::{BrokenStore, FullStore, NoStore};
 use crate::fault::Fault;
 use crate::memory_store::MemoryStore;
 use crate::transcript::{number, parts, push_line, push_named, show};
-use ssim_program::{Store, StoreFault, run};
+use ssim_program::{HoldFault, KeepFault, Store, StoreFault, run};
 use ssim_vectors::{Extent, FailingWriter};
 use std::alloc::Global;
 
@@ -13,8 +13,10 @@ use std::alloc::Global;
 pub struct Devices {
     /// The fault of the store, if it fails.
     store: Option<StoreFault>,
+    /// The fault of the store if a file is held, if that fails.
+    hold: Option<HoldFault>,
     /// The fault of the store if a file is kept, if that fails.
-    keep: Option<StoreFault>,
+    keep: Option<KeepFault>,
     /// How many bytes a file gives before it fails, if it fails.
     file: Option<usize>,
     /// What the standard output takes, and whether it can be flushed.
@@ -29,6 +31,7 @@ impl Devices {
     pub fn new() -> Devices {
         Devices {
             store: None,
+            hold: None,
             keep: None,
             file: None,
             out: Extent::whole(),
@@ -46,7 +49,8 @@ impl Devices {
             "flush" => self.flushes = false,
             "file" => self.file = Some(number(how)?),
             "store" => self.store = Some(fault_of(how)),
-            "keep" => self.keep = Some(fault_of(how)),
+            "hold" => self.hold = Some(hold_fault_of(how)),
+            "keep" => self.keep = Some(keep_fault_of(how)),
             _ => return Err(Fault::Line),
         }
         Ok(())
@@ -66,22 +70,21 @@ impl Devices {
     /// Runs the program on these words.
     pub fn answer(&self, alloc: Global, words: &[&str], store: &mut MemoryStore) -> Answer {
         let failures = 0;
-        match (self.store, self.keep, self.file) {
-            (Some(fault), _, _) => {
-                self.answer_with(alloc, words, &mut NoStore { fault, failures })
-            }
-            (None, Some(fault), _) => {
-                let mut full = FullStore {
-                    store,
-                    fault,
-                    failures,
-                };
-                self.answer_with(alloc, words, &mut full)
-            }
-            (None, None, Some(room)) => {
-                self.answer_with(alloc, words, &mut BrokenStore { store, room })
-            }
-            (None, None, None) => self.answer_with(alloc, words, store),
+        if let Some(fault) = self.store {
+            return self.answer_with(alloc, words, &mut NoStore { fault, failures });
+        }
+        if self.hold.is_some() || self.keep.is_some() {
+            let mut full = FullStore {
+                store,
+                hold: self.hold,
+                fault: self.keep.unwrap_or(KeepFault::Fault),
+                failures,
+            };
+            return self.answer_with(alloc, words, &mut full);
+        }
+        match self.file {
+            Some(room) => self.answer_with(alloc, words, &mut BrokenStore { store, room }),
+            None => self.answer_with(alloc, words, store),
         }
     }
 
@@ -103,6 +106,24 @@ fn fault_of(how: &str) -> StoreFault {
         StoreFault::Memory
     } else {
         StoreFault::Fault
+    }
+}
+
+/// The fault of a store that holds no file.
+fn hold_fault_of(how: &str) -> HoldFault {
+    match how {
+        "memory" => HoldFault::Memory,
+        "busy" => HoldFault::Busy,
+        _ => HoldFault::Fault,
+    }
+}
+
+/// The fault of a store that keeps no file.
+fn keep_fault_of(how: &str) -> KeepFault {
+    match how {
+        "memory" => KeepFault::Memory,
+        "busy" => KeepFault::Busy,
+        _ => KeepFault::Fault,
     }
 }
 

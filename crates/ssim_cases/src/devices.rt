@@ -1,15 +1,15 @@
 //! Devices and stores that fail.
 
-ghost use Rattle.std.specs.Prelude.{None};
+ghost use Rattle.std.specs.Prelude.{None, true};
 ghost use Rattle.ssim_program.specs.Files.{CountsKeep};
 
 use crate::memory_file::MemoryFile;
-use crate::memory_store::MemoryStore;
-use ssim_program::{Content, Store, StoreFault};
+use crate::memory_store::{MemoryHold, MemoryStore};
+use ssim_program::{Content, ContentKind, HoldFault, KeepFault, Store, StoreFault};
 use ssim_records::{DeviceFault, Source};
 use std::alloc::Global;
 
-/// A store whose calls all fail with its fault.
+/// A store that reads no file, and keeps none: each call fails with its fault.
 #[derive(Clone, Copy)]
 pub struct NoStore {
     pub fault: StoreFault,
@@ -19,7 +19,26 @@ pub struct NoStore {
 impl Store for NoStore {
     type File = MemoryFile;
 
+    type Hold = MemoryHold;
+
     ghost failures = { λ s. s.failures };
+
+    ghost is_fresh = { λ _. true };
+
+    fn begin(&mut self) {}
+
+    fn hold(
+        &mut self,
+        alloc: Global,
+        name: &str,
+        _kind: ContentKind,
+    ) -> Result<MemoryHold, HoldFault> {
+        MemoryHold::of(alloc, name)
+    }
+
+    fn is_same_file(&self, one: &str, other: &str) -> bool {
+        one == other
+    }
 
     fn open(&mut self, _alloc: Global, _name: &str) -> Result<MemoryFile, StoreFault> {
         Err(self.fault)
@@ -29,38 +48,64 @@ impl Store for NoStore {
         Err(self.fault)
     }
 
-    fn keep<C: Content>(&mut self, _name: &str, _content: &C) -> Result<(), StoreFault> {
-        not_kept(self.fault, &mut self.failures)
+    fn keep<C: Content>(&mut self, _hold: &MemoryHold, _content: &C) -> Result<(), KeepFault> {
+        let fault = match self.fault {
+            StoreFault::Memory => KeepFault::Memory,
+            StoreFault::Fault => KeepFault::Fault,
+        };
+        not_kept(fault, &mut self.failures)
     }
 
     ghost unfailing = { λ s. tt };
 }
 
 /// The result of a call of `keep` that fails with this fault. 91 is counted.
-fn not_kept(fault: StoreFault, failures: &mut u64) -> Result<(), StoreFault>
+fn not_kept(fault: KeepFault, failures: &mut u64) -> Result<(), KeepFault>
     ensures { CountsKeep failures.old failures.new result }
 {
-    match fault {
-        StoreFault::Memory => Err(StoreFault::Memory),
-        StoreFault::Fault => {
-            *failures = failures.wrapping_add(1);
-            Err(StoreFault::Fault)
-        }
+    if let KeepFault::Fault = fault {
+        *failures = failures.wrapping_add(1);
     }
+    Err(fault)
 }
 
-/// A store whose files are read, but which keeps none: each call of `keep` fails with its fault.
+/// A store that holds each file and reads it, or not, but keeps none.
 #[derive(Drop)]
 pub struct FullStore<'a> {
     pub store: &'a mut MemoryStore,
-    pub fault: StoreFault,
+    /// The fault of each call of `hold`, if it fails.
+    pub hold: Option<HoldFault>,
+    /// The fault of each call of `keep`.
+    pub fault: KeepFault,
     pub failures: u64,
 }
 
 impl Store for FullStore<'_> {
     type File = MemoryFile;
 
+    type Hold = MemoryHold;
+
     ghost failures = { λ s. s.failures };
+
+    ghost is_fresh = { λ _. true };
+
+    fn begin(&mut self) {}
+
+    fn hold(
+        &mut self,
+        alloc: Global,
+        name: &str,
+        _kind: ContentKind,
+    ) -> Result<MemoryHold, HoldFault> {
+        match self.hold {
+            Some(fault) => Err(fault),
+            None => MemoryHold::of(alloc, name),
+        }
+    }
+
+    fn is_same_file(&self, one: &str, other: &str) -> bool {
+        self.store.is_same_file(one, other)
+    }
 
     fn open(&mut self, alloc: Global, name: &str) -> Result<MemoryFile, StoreFault> {
         self.store.open(alloc, name)
@@ -70,7 +115,7 @@ impl Store for FullStore<'_> {
         self.store.load(alloc, name, limit)
     }
 
-    fn keep<C: Content>(&mut self, _name: &str, _content: &C) -> Result<(), StoreFault> {
+    fn keep<C: Content>(&mut self, _hold: &MemoryHold, _content: &C) -> Result<(), KeepFault> {
         not_kept(self.fault, &mut self.failures)
     }
 
@@ -87,7 +132,26 @@ pub struct BrokenStore<'a> {
 impl Store for BrokenStore<'_> {
     type File = BrokenFile;
 
+    type Hold = MemoryHold;
+
     ghost failures = { λ _. 0 };
+
+    ghost is_fresh = { λ _. true };
+
+    fn begin(&mut self) {}
+
+    fn hold(
+        &mut self,
+        alloc: Global,
+        name: &str,
+        _kind: ContentKind,
+    ) -> Result<MemoryHold, HoldFault> {
+        MemoryHold::of(alloc, name)
+    }
+
+    fn is_same_file(&self, one: &str, other: &str) -> bool {
+        self.store.is_same_file(one, other)
+    }
 
     fn open(&mut self, alloc: Global, name: &str) -> Result<BrokenFile, StoreFault> {
         let file = self.store.open(alloc, name)?;
@@ -103,8 +167,8 @@ impl Store for BrokenStore<'_> {
         self.store.load(alloc, name, limit)
     }
 
-    fn keep<C: Content>(&mut self, name: &str, content: &C) -> Result<(), StoreFault> {
-        self.store.keep(name, content)
+    fn keep<C: Content>(&mut self, hold: &MemoryHold, content: &C) -> Result<(), KeepFault> {
+        self.store.keep(hold, content)
     }
 
     ghost unfailing = { λ s. tt };

@@ -66,8 +66,8 @@ Example:
   ssimdesk start season.ssim stations.txt fdh.desk
 writes the file 'fdh.desk' and prints:
   held 0
-Exit status: 0; 1 if the data set or the table is refused, or a file cannot be read or
-written.";
+Exit status: 0; 1 if the data set or the table is refused, a file cannot be read or
+written, another command holds OUT (92), or OUT is a file of another kind (93).";
 
 pub(crate) const TAKE: &str = "\
 Read a desk file, take SSM and ASM texts one after the other, print what became of each,
@@ -80,8 +80,8 @@ prints the reference of each message, 'taken' if it is new and 'repeated' if it 
   taken SSM 15MAR27 00001 001
   repeated SSM 15MAR27 00001 001
 Each file is one text. At the first that is refused it stops, and OUT is not written.
-Exit status: 0; 1 if the desk file or a text is refused, or a file cannot be read or
-written.";
+Exit status: 0; 1 if the desk file or a text is refused, a file cannot be read or written,
+another command holds OUT (92), or OUT is a file of another kind (93).";
 
 pub(crate) const RECEIVE: &str = "\
 Read a desk file, try every text of every file, print what became of each, and write the
@@ -97,10 +97,11 @@ refusal, and the number of each:
   taken 1 repeated 0 refused 1
 A file may have any number of texts, with their envelopes and lines NNNN.
 Exit status: 0, also if texts were refused; 1 if the desk file is refused or cannot be
-read, or a file cannot be written.";
+read, a file cannot be written, another command holds it (92), OUT is a file of another
+kind, or the file for refused texts is not empty or is one of the others (93).";
 
 pub(crate) const REFUSED: &str =
-    "The file in which to keep the refused texts, to be corrected and received again";
+    "The new or empty file in which to keep the refused texts, to be corrected and received";
 
 pub(crate) const MERGE: &str = "\
 Read two desk files that began from the same data set and station table, and write the
@@ -112,7 +113,8 @@ Example:
 writes the file 'both.desk' and prints the number of messages that it holds:
   held 3
 Exit status: 0; 1 if a desk file is refused, the data sets or the tables differ (61), the
-two hold different messages under one reference (60), or a file cannot be read or written.";
+two hold different messages under one reference (60), a file cannot be read or written,
+another command holds OUT (92), or OUT is a file of another kind (93).";
 
 pub(crate) const TEXTS: &str = "\
 Read a desk file, and print the canonical texts of the messages that it holds, in order of
@@ -142,7 +144,8 @@ prints each reference, after 'withdrawn', or 'not held' if the desk does not hol
   withdrawn SSM 15MAR27 00002 001
 A merge with a desk that still holds the message brings it back.
 Exit status: 0, also if no message was held; 1 if the desk file is refused, a word is no
-reference (21), or a file cannot be read or written.";
+reference (21), a file cannot be read or written, another command holds OUT (92), or OUT is
+a file of another kind (93).";
 
 pub(crate) const SHOW: &str =
     "Read a desk file, and print the legs of a flight on a date of origin";
@@ -291,8 +294,8 @@ the reason, and the numbers of all:
 From text to text the group serial of the reference, 00001, rises by one.
 Exit status: 0, also if dates are unsaid; 1 if a file is refused, the airline (41) or the
 time mode (40) of TO is another one, REFERENCE is no reference (21), has no date (42), or does
-not come after all messages of FROM (64), the group serial would pass 99999 (65), or OUT
-cannot be written.";
+not come after all messages of FROM (64), the group serial would pass 99999 (65), OUT cannot
+be written or is held by another command (92), or OUT is a desk file or a data set (93).";
 
 pub(crate) const FIRST_REFERENCE: &str =
     "The reference of the first text, such as 05JUN00001E001 or .ZRHRMLX/05JUN00001E001";

@@ -14,7 +14,7 @@ const UNSUPPORTED: &str = "not supported: split the flight's periods, or write w
 const TOO_LARGE: &str =
     "a chapter 7 data set cannot say it: combine the flight's single dates, or divide the data set";
 
-const TABLE: [Explanation; 41] = [
+const TABLE: [Explanation; 43] = [
     Explanation {
         number: 1,
         meaning: "the date is not DDMMMYY, or no day of the calendar",
@@ -219,6 +219,16 @@ const TABLE: [Explanation; 41] = [
         number: 91,
         meaning: "the file was not read, has more than 268,435,456 bytes, or was not written",
         remedy: "check the name, the permission and the disk",
+    },
+    Explanation {
+        number: 92,
+        meaning: "another command holds the file, or the file changed after it was read",
+        remedy: "run the command again; a job can wait by flock on another file than this one",
+    },
+    Explanation {
+        number: 93,
+        meaning: "the file is of another kind than what is to be written there, or the command reads it",
+        remedy: "see whether OUT was left out; write to another file, or remove this one if nobody needs it",
     },
 ];
 

@@ -102,27 +102,3 @@ prepared line old n new m P Q (Err refusal) made why same counted ok err = (inl 
 pub refused_before : {A : Type 0} (line : Line) (old : Option Files) (n : ℕ) (new : Option Files) (m : ℕ) (refusal : Refusal) (r : Result (Vec ℕ A) Refusal)
     → r ≡ Err refusal → Refuses line old [] refusal → new ≡ old → m ≡ n → Prepares line (stored old n) (stored new m) r
 refused_before line old n new m refusal r is why same counted = rw is (inl (why, counted, refl), same)
-
--- memory ran out before anything was done
-pub memory_refuses : (line : Line) (files : Option Files) → Refuses line files [] refused.Memory
-memory_refuses (Check name) files = (refl, inl (inl refl))
-memory_refuses (Problems name) files = (refl, inl refl)
-memory_refuses (Tidy name) files = (refl, inl (inl (inl refl)))
-memory_refuses (Start dataset stations out) files = (refl, inl (inl refl))
-memory_refuses (Take file out names) files = inl (refl, inl (inl refl))
-memory_refuses (Receive refused file out names) files = (refl, inr refl)
-memory_refuses (Merge file other out) files = (refl, inl (inl (inl refl)))
-memory_refuses (Withdraw file out references) files = (refl, inl (inl (inl refl)))
-memory_refuses (Texts file flights) files = (refl, inl (inl (inl refl)))
-memory_refuses (Show file flight date) files = (refl, inl (inl (inl refl)))
-memory_refuses (History file flight date) files = (refl, inl (inl (inl refl)))
-memory_refuses (Board file station date) files = (refl, inl (inl (inl refl)))
-memory_refuses (Listing form file flights) files = (refl, inl (inl (inl refl)))
-memory_refuses (Calendar file flight) files = (refl, inl (inl (inl refl)))
-memory_refuses (Page file) files = (refl, inl (inl (inl refl)))
-memory_refuses (Diff from to) files = (refl, inl (inl (inl refl)))
-memory_refuses (Publish from to reference out) files = (refl, inl (inl (inl refl)))
-memory_refuses (Findings file) files = (refl, inl (inl (inl refl)))
-memory_refuses (Export file) files = (refl, inl (inl (inl refl)))
-memory_refuses (Rehearse dataset stations script) files = (refl, inl refl)
-memory_refuses (Explain word) files = (refl, inl refl)

@@ -5,6 +5,8 @@ pub mod Again
 pub mod Texts
 pub mod Received
 pub mod Keeping
+pub mod Holding
+pub mod SameFile
 pub mod Receiving
 pub mod MessageTexts
 pub mod NamedFlights

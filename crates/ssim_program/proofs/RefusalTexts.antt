@@ -26,6 +26,14 @@ pub file_text : (file : String Global) (name : List ℕ) → string_bytes file �
 unfolding digits
 file_text file name is = ap (λ (text : List ℕ). codes "refused 91 File " ++ text) is
 
+pub busy_text : (file : String Global) (name : List ℕ) → string_bytes file ≡ name → refusal_text (refused.Busy file) ≡ codes "refused 92 Busy " ++ name
+unfolding digits
+busy_text file name is = ap (λ (text : List ℕ). codes "refused 92 Busy " ++ text) is
+
+pub occupied_text : (file : String Global) (name : List ℕ) → string_bytes file ≡ name → refusal_text (refused.Occupied file) ≡ codes "refused 93 Occupied " ++ name
+unfolding digits
+occupied_text file name is = ap (λ (text : List ℕ). codes "refused 93 Occupied " ++ text) is
+
 -- ---- a record with its column, an element of a desk file, a message
 
 column_text : refusal_text (refused.DataSet (Read (BadColumn 3 37))) ≡ codes "refused 12 BadColumn record 3 column 37"

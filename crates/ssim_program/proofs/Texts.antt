@@ -4,13 +4,15 @@ use Rattle.std.specs.List.{slice_get}
 use Rattle.std.proofs.Math.Seq.{take-length}
 use Rattle.ssim_held.specs.File.{desk_file}
 use Rattle.ssim_held.specs.Entries.{AreRising, DeskSeen}
-use Rattle.ssim_program.specs.Desks.{ReadsDesk, RefusesDeskFile, RefusesFileText, RefusesKeep, TakesFirst, TakesText, TakesTexts}
+use Rattle.ssim_program.specs.Desks.{ReadsDesk, RefusesDeskFile, RefusesFileText, RefusesHold, RefusesKeep, TakesFirst, TakesText, TakesTexts}
 use Rattle.ssim_program.specs.internal.Take.{PrintsTexts}
 use Rattle.ssim_program.specs.Files.{Files, with_kept}
 use Rattle.ssim_command_line.specs.Line.{Text, Take}
 use Rattle.ssim_program.specs.print.Paper.{Breaks, Grows, Paper}
 use Rattle.ssim_program.specs.World.{world}
 use Rattle.ssim_program.specs.internal.Program.{Does}
+use Rattle.ssim_program.specs.Places.{MayReplace}
+use Rattle.ssim_program.specs.declared.content_kind.ContentKind.TheVariants as kind
 use Rattle.ssim_program.specs.declared.refusal.Refusal.{Refusal}
 use Rattle.ssim_program.specs.declared.refusal.Refusal.TheVariants as refused
 use Rattle.ssim_program.proofs.Printers.{breaks_after, breaks_more, flushed_after, grows_more, nothing}
@@ -38,7 +40,7 @@ first_ones [] i x e = absurd (true≢false (sym (ap is_some e)))
 first_ones (y ∷ ys) zero x e = ap (λ o. unwrap_or o x ∷ []) e
 first_ones (y ∷ ys) (suc i) x e = ap (λ zs. y ∷ zs) (first_ones ys i x e)
 
-next : {A : Type 0} (xs : List A) (i : ℕ) (x : A) → slice_get xs i ≡ Some x → take (i + 1) xs ≡ take i xs ++ x ∷ []
+pub next : {A : Type 0} (xs : List A) (i : ℕ) (x : A) → slice_get xs i ≡ Some x → take (i + 1) xs ≡ take i xs ++ x ∷ []
 next xs i x e = let more : i + 1 ≡ suc i = omega arith in ap (λ n. take n xs) more ∙ first_ones xs i x e
 
 module _ (files : Option Files) (names : List Text) (i : ℕ) (name : Text) (is : slice_get names i ≡ Some name) (a b : DeskSeen) (p q : Paper)
@@ -70,21 +72,27 @@ module _ (files : Option Files) (names : List Text) (i : ℕ) (name : Text) (is 
 
 -- what `take` does, from what its calls do
 module _ (files : Option Files) (n : ℕ) (file out : Text) (names : List Text) where
+  -- the file that is to be kept is not held
+  pub not_held : (new : Option Files) (m : ℕ) (p : Paper) (refusal : Refusal) → RefusesHold files out kind.DeskFile refusal → new ≡ files → m ≡ n
+      → Does (Take file out names) (world files n p) (world new m p) (Err refusal)
+  not_held new m p refusal why same counted = inl (record { printed = []; kept = []; why = inl (inl (refl, why), counted, refl); files = same; grows = nothing p })
+
+module _ (files : Option Files) (n : ℕ) (file out : Text) (names : List Text) (may : MayReplace files out kind.DeskFile) where
   -- the desk file is refused
   pub not_opened : (new : Option Files) (m : ℕ) (p : Paper) (refusal : Refusal) → RefusesDeskFile files file refusal → new ≡ files → m ≡ n
       → Does (Take file out names) (world files n p) (world new m p) (Err refusal)
-  not_opened new m p refusal why same counted = inl (record { printed = []; kept = []; why = inl (inl (refl, why), counted, refl); files = same; grows = nothing p })
+  not_opened new m p refusal why same counted = inl (record { printed = []; kept = []; why = inl (inr (may, inl (refl, why)), counted, refl); files = same; grows = nothing p })
 
   module _ (desk : DeskSeen) (read : ReadsDesk files file desk) (last : DeskSeen) (p q : Paper) where
     -- a text is refused, or `out` fails
     pub not_taken : (new : Option Files) (m : ℕ) (refusal : Refusal) → new ≡ files → m ≡ n → PrintsTexts files names desk last p q (Err refusal)
         → Does (Take file out names) (world files n p) (world new m q) (Err refusal)
-    not_taken new m refusal same counted (inl k) = inl (record { printed = k.0; kept = []; why = inl (inr (desk, read, k.1), counted, refl); files = same; grows = k.2 })
+    not_taken new m refusal same counted (inl k) = inl (record { printed = k.0; kept = []; why = inl (inr (may, inr (desk, read, k.1)), counted, refl); files = same; grows = k.2 })
     not_taken new m refusal same counted (inr k) = inr (record {
       is = k.0;
       printed = k.3;
       kept = [];
-      begins = (desk, k.1, k.2, read, k.4, refl);
+      begins = (desk, k.1, k.2, read, k.4, refl, may);
       files = same;
       failures = counted;
       breaks = k.5;
@@ -101,7 +109,7 @@ module _ (files : Option Files) (n : ℕ) (file out : Text) (names : List Text) 
         is = failed;
         printed = printed.0;
         kept = [];
-        begins = (desk, length names, last, read, whole, refl);
+        begins = (desk, length names, last, read, whole, refl, may);
         files = same;
         failures = counted;
         breaks = breaks_after printed.0 p q r printed.2 breaks;
@@ -114,7 +122,7 @@ module _ (files : Option Files) (n : ℕ) (file out : Text) (names : List Text) 
       kept_or_not (Ok x) between l new m rising before none grows flushed done same counted why = record {
         printed = printed.0;
         kept = (out, desk_file last.base last.held) ∷ [];
-        makes = (desk, last, read, printed.1, rising, refl);
+        makes = (desk, last, read, printed.1, rising, refl, may);
         again = tt;
         files = done ∙ ap (with_kept ((out, desk_file last.base last.held) ∷ [])) before;
         failures = counted ∙ none;
@@ -129,7 +137,7 @@ module _ (files : Option Files) (n : ℕ) (file out : Text) (names : List Text) 
           name = out;
           bytes = desk_file last.base last.held;
           later = [];
-          makes = (desk, last, read, printed.1, rising, refl);
+          makes = (desk, last, read, printed.1, rising, refl, may);
           printed_is = refl;
           kept_is = refl;
           why = subst (λ (k : ℕ). RefusesKeep k m out refusal) none why;

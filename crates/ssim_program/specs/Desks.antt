@@ -27,7 +27,9 @@ use Rattle.ssim_program.specs.Files.{Files}
 use Rattle.ssim_command_line.specs.Line.{Text}
 use Rattle.ssim_program.specs.Made.{HasFile, IsExport, RefusesLoad}
 use Rattle.ssim_program.specs.print.PrintedLine.{printed_text}
-use Rattle.ssim_program.specs.print.Refusal.{IsOfFile, refusal_of_desk}
+use Rattle.ssim_program.specs.print.Refusal.{IsOfFile, SaysBusy, SaysOccupied, refusal_of_desk}
+use Rattle.ssim_program.specs.Places.{IsOccupied}
+use Rattle.ssim_program.specs.declared.content_kind.ContentKind.{ContentKind}
 use Rattle.ssim_program.specs.print.Shown.{history_lines, shown_flight}
 use Rattle.ssim_program.specs.declared.print.printed_line.PrintedLine.{PrintedLine}
 use Rattle.ssim_program.specs.declared.print.printed_line.PrintedLine.TheVariants as printed
@@ -53,12 +55,24 @@ RefusesDeskFile files name refusal =
     ⊎ ((bytes : List ℕ) × HasFile files name bytes × IsNoDeskFile bytes × (offset : ℕ)
     × (refusal ≡ refused.Desk (desk_fault.File offset)))
 
+-- Why the file of a name is not held for what a command keeps: memory ran out; or the file may not
+-- be replaced, and the refusal is 93 with the name; or, of a store whose files the contract cannot
+-- see, another command holds the file (92), or it cannot be read (91).
+abbrev pub RefusesHold : Option Files → Text → ContentKind → Refusal → Type 0
+RefusesHold files name kept refusal =
+    (refusal ≡ refused.Memory)
+    ⊎ (SaysOccupied name refusal × IsOccupied files name kept)
+    ⊎ (SaysBusy name refusal × (files ≡ None))
+    ⊎ (IsOfFile name refusal × (files ≡ None))
+
 -- Why a file is not kept, by the count of the store's failures: memory ran out; or the store
--- counted one failure more, and the refusal is 91 with the name.
+-- counted one failure more, and the refusal is 91 with the name; or the file changed after it was
+-- held, and the refusal is 92 with the name.
 abbrev pub RefusesKeep : ℕ → ℕ → Text → Refusal → Type 0
 RefusesKeep old new name refusal =
     ((refusal ≡ refused.Memory) × (new ≡ old))
     ⊎ (IsOfFile name refusal × (new ≡ (old + 1) % 2 ^ 64))
+    ⊎ (SaysBusy name refusal × (new ≡ old))
 
 -- the line with the number of messages that a desk holds
 abbrev pub held_line : ℕ → List ℕ

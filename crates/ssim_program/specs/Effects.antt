@@ -21,6 +21,8 @@ use Rattle.ssim_program.specs.Differences.{PrintsDifferences}
 use Rattle.ssim_program.specs.Listing.{Lists}
 use Rattle.ssim_program.specs.Messages.{ShowsTexts}
 use Rattle.ssim_program.specs.Pages.{ShowsPage}
+use Rattle.ssim_program.specs.Places.{MayReplace}
+use Rattle.ssim_program.specs.declared.content_kind.ContentKind.TheVariants as kind
 use Rattle.ssim_program.specs.Publishing.{PublishesFiles}
 use Rattle.ssim_program.specs.Receiving.{Receives}
 use Rattle.ssim_program.specs.Made.{AreLinesOn, FindsProblems, IsExportOf, ReadsBase, ReadsFile}
@@ -32,7 +34,7 @@ use Rattle.ssim_program.specs.print.Shown.{findings_lines}
 
 -- What each command makes of the files: the bytes that it prints, and the files that it keeps. The
 -- records of a new desk's base can be written, and the messages of a desk that is kept are in order
--- of reference.
+-- of reference. A file that is kept replaces none of another kind.
 abbrev pub Makes : Line → Option Files → List ℕ → Kept → Type 0
 Makes (Check name) files printed kept =
     (base : List Record) × (notes : List Note) × ReadsFile files name (Ok (base, notes))
@@ -47,21 +49,22 @@ Makes (Start dataset stations out) files printed kept =
     (base : BaseSeen) × (notes : List Note) × ReadsBase files dataset stations base notes
     × IsBaseRecords base.records
     × (printed ≡ held_line 0) × (kept ≡ (out, desk_file base []) ∷ [])
+    × MayReplace files out kind.DeskFile
 Makes (Take file out names) files printed kept =
     (before : DeskSeen) × (after : DeskSeen) × ReadsDesk files file before
     × TakesTexts files names before after printed × AreRising after.held
-    × (kept ≡ (out, desk_file after.base after.held) ∷ [])
+    × (kept ≡ (out, desk_file after.base after.held) ∷ []) × MayReplace files out kind.DeskFile
 Makes (Receive refused file out names) files printed kept =
     Receives files refused file out names printed kept
 Makes (Merge file other out) files printed kept =
     (mine : DeskSeen) × (theirs : DeskSeen) × (after : DeskSeen) × ReadsDesk files file mine
     × ReadsDesk files other theirs × IsMergeOf mine theirs after × AreRising after.held
     × (printed ≡ held_line (length after.held))
-    × (kept ≡ (out, desk_file after.base after.held) ∷ [])
+    × (kept ≡ (out, desk_file after.base after.held) ∷ []) × MayReplace files out kind.DeskFile
 Makes (Withdraw file out references) files printed kept =
     (before : DeskSeen) × (after : DeskSeen) × ReadsDesk files file before
     × WithdrawsFrom references before after printed × AreRising after.held
-    × (kept ≡ (out, desk_file after.base after.held) ∷ [])
+    × (kept ≡ (out, desk_file after.base after.held) ∷ []) × MayReplace files out kind.DeskFile
 Makes (Texts file flights) files printed kept =
     (desk : DeskSeen) × ReadsDesk files file desk × ShowsTexts desk flights printed × (kept ≡ [])
 Makes (Show file flight date) files printed kept =
@@ -86,7 +89,7 @@ Makes (Diff from to) files printed kept =
     × PrintsDifferences old new printed × (kept ≡ [])
 Makes (Publish from to reference out) files printed kept =
     (mail : List ℕ) × PublishesFiles files from to reference printed mail
-    × (kept ≡ (out, mail) ∷ [])
+    × (kept ≡ (out, mail) ∷ []) × MayReplace files out kind.Messages
 Makes (Findings file) files printed kept =
     (desk : DeskSeen) × ReadsDesk files file desk × (printed ≡ findings_lines (finding_lines desk))
     × (kept ≡ [])
@@ -103,6 +106,7 @@ abbrev pub Begins : Line → Option Files → List ℕ → Kept → Type 0
 Begins (Take file out names) files printed kept =
     (before : DeskSeen) × (n : ℕ) × (last : DeskSeen) × ReadsDesk files file before
     × TakesFirst files names n before last printed × (kept ≡ [])
+    × MayReplace files out kind.DeskFile
 Begins (Receive refused file out names) files printed kept =
     (later : Kept) × Receives files refused file out names printed later × (kept ≡ [])
 Begins line files printed kept = Makes line files printed kept

@@ -3,6 +3,8 @@ use Rattle.std.specs.Prelude.{Vec, ◌≡◌, ◌<◌, ◌+◌, ◌%◌, ◌^◌
 use Rattle.std.specs.Prelude.{Option, Some, None, Result, Ok, Err, find, length, option_map}
 use Rattle.std.specs.Str.{bytes_eq}
 use Rattle.ssim_records.specs.Device.{Reader}
+use Rattle.ssim_program.specs.declared.store.KeepFault.{KeepFault}
+use Rattle.ssim_program.specs.declared.store.KeepFault.TheVariants as keep
 use Rattle.ssim_program.specs.declared.store.StoreFault.{StoreFault}
 use Rattle.ssim_program.specs.declared.store.StoreFault.TheVariants as fault
 
@@ -37,15 +39,15 @@ OpensFile state files name (Err fault.Fault) =
     IfSome files (λ all. IfSome (file_of all name) (λ bytes. ⊥))
 
 -- a file that is kept comes first; after a fault the files are as they were
-abbrev pub KeepsFile : Option Files → Option Files → List ℕ → List ℕ → Result ⊤ StoreFault → Type 0
+abbrev pub KeepsFile : Option Files → Option Files → List ℕ → List ℕ → Result ⊤ KeepFault → Type 0
 KeepsFile old new name bytes (Ok x) = new ≡ option_map (λ all. (name, bytes) ∷ all) old
 KeepsFile old new name bytes (Err e) = new ≡ old
 
 -- the store counts a file that it failed to keep (91), and nothing else; the count wraps
-abbrev pub CountsKeep : ℕ → ℕ → Result ⊤ StoreFault → Type 0
+abbrev pub CountsKeep : ℕ → ℕ → Result ⊤ KeepFault → Type 0
 CountsKeep old new (Ok x) = new ≡ old
-CountsKeep old new (Err fault.Memory) = new ≡ old
-CountsKeep old new (Err fault.Fault) = new ≡ (old + 1) % 2 ^ 64
+CountsKeep old new (Err keep.Fault) = new ≡ (old + 1) % 2 ^ 64
+CountsKeep old new (Err _) = new ≡ old
 
 -- the number of a store's fault: 90 if memory ran out; 91 if there is no such file within the
 -- limit, or it cannot be read or written

@@ -1,4 +1,5 @@
 pub mod Files
+pub mod Places
 pub mod print
 pub mod Made
 pub mod Desks

@@ -1,9 +1,10 @@
 -- What becomes of the texts of mailbox files that a desk receives, and what is printed and kept of
 -- them.
-use Rattle.std.specs.Prelude.{◌≡◌, ◌⊎◌, ℕ, ◌+◌, ◌-◌, Bool, true, false, List, [], ◌∷◌, ◌++◌, Option}
+use Rattle.std.specs.Prelude.{◌≡◌, ◌⊎◌, ℕ, ◌+◌, ◌-◌, Bool, true, false, IfSome, List, [], ◌∷◌, ◌++◌, Option}
 use Rattle.std.specs.Prelude.{Some, None, codes, length, nat_le, if◌then◌else◌}
 use Rattle.std.specs.Fmt.{decimal}
-use Rattle.std.specs.List.{count_by, flat_map}
+use Rattle.std.specs.List.{count_by, flat_map, list_any}
+use Rattle.std.specs.Str.{bytes_eq}
 use Rattle.ssim_base.specs.BaseSeen.{BaseSeen}
 use Rattle.ssim_base.specs.Export.{line}
 use Rattle.ssim_base.specs.declared.place.Place.{Place}
@@ -19,12 +20,15 @@ use Rattle.ssim_desk.specs.Steps.{RefusesText}
 use Rattle.ssim_desk.specs.declared.desk.Took.{Took}
 use Rattle.ssim_desk.specs.declared.desk.Took.TheVariants as took
 use Rattle.ssim_command_line.specs.Line.{Text}
-use Rattle.ssim_program.specs.Desks.{IsTaken, ReadsDesk, took_printed}
+use Rattle.ssim_program.specs.Desks.{IsTaken, ReadsDesk, RefusesHold, took_printed}
 use Rattle.ssim_program.specs.Files.{Files, Kept, file_of}
 use Rattle.ssim_program.specs.Made.{HasFile, IsMissing, file_limit}
+use Rattle.ssim_program.specs.Places.{MayReplace}
 use Rattle.ssim_program.specs.print.Names.{printed_name}
 use Rattle.ssim_program.specs.print.PrintedLine.{printed_text}
-use Rattle.ssim_program.specs.print.Refusal.{place_text, refusal_head, refusal_of_desk, refusal_place}
+use Rattle.ssim_program.specs.print.Refusal.{SaysOccupied, place_text, refusal_head, refusal_of_desk, refusal_place}
+use Rattle.ssim_program.specs.declared.content_kind.ContentKind.TheVariants as kind
+use Rattle.ssim_program.specs.declared.refusal.Refusal.{Refusal}
 
 -- ---- what becomes of texts
 
@@ -160,9 +164,40 @@ abbrev pub file_of_refused : Option Text → List ℕ → Kept
 file_of_refused None texts = []
 file_of_refused (Some name) texts = (name, texts) ∷ []
 
+-- the file for refused texts is none of these, if the contract can see the files
+abbrev pub IsApart : Option Files → Text → List Text → Type 0
+IsApart files refused names = IfSome files (λ all. list_any (bytes_eq refused) names ≡ false)
+
+-- the file for refused texts is one of these, if the contract can see the files
+abbrev pub IsAmong : Option Files → Text → List Text → Type 0
+IsAmong files refused names = IfSome files (λ all. list_any (bytes_eq refused) names ≡ true)
+
+-- The files that `receive` keeps may be replaced. The file for refused texts is none that it reads,
+-- and not the desk's.
+abbrev pub MayReceive : Option Files → Option Text → Text → Text → List Text → Type 0
+MayReceive files None file out names = MayReplace files out kind.DeskFile
+MayReceive files (Some refused) file out names =
+    MayReplace files out kind.DeskFile × IsApart files refused (out ∷ file ∷ names)
+    × MayReplace files refused kind.RefusedTexts
+
+-- Why the file for refused texts is not held: it is one that `receive` reads or keeps, and the
+-- refusal is 93 with its name; or it is none, and the store does not hold it.
+abbrev pub RefusesRefused : Option Files → Text → List Text → Refusal → Type 0
+RefusesRefused files refused names refusal =
+    (SaysOccupied refused refusal × IsAmong files refused names)
+    ⊎ (IsApart files refused names × RefusesHold files refused kind.RefusedTexts refusal)
+
+-- why the files that `receive` keeps are not held: first the desk's, then that of refused texts
+abbrev pub RefusesPlaces : Option Files → Option Text → Text → Text → List Text → Refusal → Type 0
+RefusesPlaces files None file out names refusal = RefusesHold files out kind.DeskFile refusal
+RefusesPlaces files (Some refused) file out names refusal =
+    RefusesHold files out kind.DeskFile refusal
+    ⊎ (MayReplace files out kind.DeskFile
+    × RefusesRefused files refused (out ∷ file ∷ names) refusal)
+
 -- The desk in a file receives the files of these names. The lines of all receipts are printed. The
 -- refused texts are kept, if a name is given, and then the desk with all that it took; its messages
--- are in order of reference.
+-- are in order of reference. No file of another kind is replaced.
 pub record Receives (files : Option Files) (refused : Option Text) (file out : Text)
     (names : List Text) (printed : List ℕ) (kept : Kept) : Type 0 where
   pub before : DeskSeen
@@ -174,3 +209,4 @@ pub record Receives (files : Option Files) (refused : Option Text) (file out : T
   pub printed_is : printed ≡ receipt_lines receipts
   pub kept_is : kept ≡ file_of_refused refused (refused_texts receipts)
       ++ (out, desk_file after.base after.held) ∷ []
+  pub may : MayReceive files refused file out names

@@ -5,10 +5,10 @@ ghost use Rattle.ssim_held.specs.File.{desk_file};
 ghost use Rattle.ssim_program.specs.Desks.{ReadsDesk, RefusesDeskFile, RefusesKeep};
 ghost use Rattle.ssim_program.specs.Files.{Files, IsOpened, with_kept};
 
-use crate::content::Content;
 use crate::data_set::{LIMIT, open_file};
+use crate::hold::keep_content;
 use crate::refusal::Refusal;
-use crate::store::{Store, StoreFault};
+use crate::store::Store;
 use ssim_desk::{DeskFault, Holdings};
 use ssim_records::Source;
 use std::alloc::Global;
@@ -51,40 +51,20 @@ pub(crate) fn read_desk<F: Source + Drop>(
     }
 }
 
-/// Keeps the desk file of what a desk holds under this name.
+/// Keeps the desk file of what a desk holds in the file that is held.
 pub(crate) fn keep<S: Store>(
     alloc: Global,
     holdings: &Holdings,
-    name: &str,
+    place: &S::Hold,
     store: &mut S,
 ) -> Result<(), Refusal>
     ensures kept { OnOk result (S.files store.new ≡ with_kept
-        ((name.now, desk_file holdings.now.base holdings.now.held) ∷ []) (S.files store.old)) }
+        ((S.Hold.file place.now, desk_file holdings.now.base holdings.now.held) ∷ [])
+        (S.files store.old)) }
     ensures same { OnErr result (S.files store.new ≡ S.files store.old) }
     ensures counted { OnOk result (S.failures store.new ≡ S.failures store.old) }
     ensures why { IfErr result
-        (RefusesKeep (S.failures store.old) (S.failures store.new) name.now) }
+        (RefusesKeep (S.failures store.old) (S.failures store.new) (S.Hold.file place.now)) }
 {
-    keep_content(alloc, holdings, name, store)
-}
-
-/// Keeps a content under this name.
-pub(crate) fn keep_content<S: Store, C: Content>(
-    alloc: Global,
-    content: &C,
-    name: &str,
-    store: &mut S,
-) -> Result<(), Refusal>
-    ensures kept { OnOk result
-        (S.files store.new ≡ with_kept ((name.now, C.bytes content.now) ∷ []) (S.files store.old)) }
-    ensures same { OnErr result (S.files store.new ≡ S.files store.old) }
-    ensures counted { OnOk result (S.failures store.new ≡ S.failures store.old) }
-    ensures why { IfErr result
-        (RefusesKeep (S.failures store.old) (S.failures store.new) name.now) }
-{
-    match store.keep(name, content) {
-        Ok(()) => Ok(()),
-        Err(StoreFault::Memory) => Err(Refusal::Memory),
-        Err(StoreFault::Fault) => Err(Refusal::of_file(alloc, name)),
-    }
+    keep_content(alloc, holdings, place, store)
 }

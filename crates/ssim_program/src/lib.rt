@@ -3,7 +3,8 @@
 //! - [`run`]: from the words, a [`Store`] and two writers of std to a status; [`run_on`]: the same
 //!   over two [`Printer`]s, which count the failures of their writers. [`parse`] of
 //!   `ssim_command_line` gives the [`Request`] that the words name.
-//! - [`Content`]: what a store keeps, as the desk file of [`ssim_desk::Holdings`].
+//! - [`Content`]: what a store keeps, as the desk file of [`ssim_desk::Holdings`]; [`ContentKind`]:
+//!   which files it may replace.
 //! - [`Refusal`]: why a command was refused; [`RefusalLine`]: its line; [`PrintedLine`]: the lines
 //!   that commands print.
 //! - [`laws`]: offices to whose desks the same messages were brought have the same desk file; a
@@ -22,9 +23,11 @@
 
 mod command;
 mod content;
+mod content_kind;
 mod data_set;
 mod desk_file;
 mod explain;
+mod hold;
 pub mod laws;
 mod print;
 mod program;
@@ -35,10 +38,11 @@ mod timetable_file;
 mod word;
 
 pub use content::Content;
+pub use content_kind::ContentKind;
 pub use print::printed_line::PrintedLine;
 pub use print::printer::Printer;
 pub use print::refusal_line::RefusalLine;
 pub use program::{run, run_on};
 pub use refusal::Refusal;
 pub use ssim_command_line::{LineFault, ListForm, Request, parse};
-pub use store::{Store, StoreFault};
+pub use store::{Hold, HoldFault, KeepFault, Store, StoreFault};

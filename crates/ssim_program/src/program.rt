@@ -1,6 +1,6 @@
 //! The program, from its words to its status.
 
-ghost use Rattle.std.specs.Prelude.{◌≡◌, ◌≤◌, ◌⊎◌, ℕ, true, false, map};
+ghost use Rattle.std.specs.Prelude.{◌≡◌, ◌≤◌, ◌⊎◌, ℕ, IsTrue, true, false, map};
 ghost use Rattle.std.specs.Io.KnownBytes.{Keeps};
 ghost use Rattle.ssim_program.specs.Help.{PrintsHelp, RefusesHelp, SaysWrong};
 ghost use Rattle.ssim_program.specs.internal.Program.{EndsWithoutRequest, SaysHelp, Does, Obeys};
@@ -192,7 +192,7 @@ pub fn run_on<S: Store, O: Write, E: Write>(
     }
 }
 
-/// Does what a command asks, and prints the line of a refusal.
+/// Begins a command, does what it asks, and prints the line of a refusal.
 fn obey<S: Store, O: Write, E: Write>(
     alloc: Global,
     request: &Request<'_>,
@@ -203,6 +203,7 @@ fn obey<S: Store, O: Write, E: Write>(
     ensures { Obeys (line_of request.now) (world (S.files store.old) (S.failures store.old) out.old)
         (world (S.files store.new) (S.failures store.new) out.new) err.old err.new result }
 {
+    store.begin();
     match act(alloc, request, store, out) {
         Ok(()) => 0,
         Err(refusal) => refuse(&refusal, err),
@@ -216,6 +217,7 @@ fn act<S: Store, O: Write>(
     store: &mut S,
     out: &mut Printer<'_, O>,
 ) -> Result<(), Refusal>
+    requires fresh { IsTrue (S.is_fresh store.now) }
     ensures { Does (line_of request.now) (world (S.files store.old) (S.failures store.old) out.old)
         (world (S.files store.new) (S.failures store.new) out.new) result }
 {

@@ -1,7 +1,8 @@
 //! Why a command was refused, as it is printed.
 ghost use Rattle.std.specs.Prelude.{◌≡◌, IfOk, option_map};
 ghost use Rattle.ssim_base.specs.Export.{line};
-ghost use Rattle.ssim_program.specs.print.Refusal.{IsOfFile, refusal_file, refusal_name};
+ghost use Rattle.ssim_program.specs.print.Refusal.{IsOfFile, SaysBusy, SaysOccupied};
+ghost use Rattle.ssim_program.specs.print.Refusal.{refusal_file, refusal_name};
 ghost use Rattle.ssim_program.specs.print.Refusal.{refusal_number};
 ghost use Rattle.ssim_program.specs.print.Refusal.{refusal_of_base, refusal_of_desk};
 ghost use Rattle.ssim_program.specs.print.Refusal.{refusal_of_export, refusal_of_outbox};
@@ -65,10 +66,22 @@ pub enum Refusal {
     File {
         name: String,
     },
+    /// 92: another command holds the file, or the file changed after it was held. The name is as it
+    /// is printed.
+    #[error("another command holds the file {name}, or it changed after it was held")]
+    Busy {
+        name: String,
+    },
+    /// 93: the file is of another kind than what the command keeps there. The name is as it is
+    /// printed.
+    #[error("the file {name} is of another kind than what is to be kept there")]
+    Occupied {
+        name: String,
+    },
 }
 
 impl Refusal {
-    /// The number by which the refusal is known, 1 to 91.
+    /// The number by which the refusal is known, 1 to 93.
     pub fn number(&self) -> u8
         ensures { result ≡ refusal_number self.now }
     {
@@ -84,6 +97,8 @@ impl Refusal {
             Refusal::Script { .. } => 63,
             Refusal::Memory => Memory.number(),
             Refusal::File { .. } => 91,
+            Refusal::Busy { .. } => 92,
+            Refusal::Occupied { .. } => 93,
         }
     }
 
@@ -103,10 +118,12 @@ impl Refusal {
             Refusal::Script { .. } => "Script",
             Refusal::Memory => Memory.name(),
             Refusal::File { .. } => "File",
+            Refusal::Busy { .. } => "Busy",
+            Refusal::Occupied { .. } => "Occupied",
         }
     }
 
-    /// What the refusal names, but for the file of 91.
+    /// What the refusal names, but for the file of 91, 92 and 93.
     pub fn place(&self) -> Place
         ensures { result ≡ refusal_place self.now }
     {
@@ -121,16 +138,20 @@ impl Refusal {
             | Refusal::Reference
             | Refusal::WriteFault
             | Refusal::Memory
-            | Refusal::File { .. } => Place::Nowhere,
+            | Refusal::File { .. }
+            | Refusal::Busy { .. }
+            | Refusal::Occupied { .. } => Place::Nowhere,
         }
     }
 
-    /// The name of the file of 91.
+    /// The name of the file of 91, 92 and 93.
     pub(crate) fn file(&self) -> Option<&str>
         ensures { option_map (λ name. name.now) result ≡ refusal_file self.now }
     {
         match self {
-            Refusal::File { name } => Some(name.as_str()),
+            Refusal::File { name } | Refusal::Busy { name } | Refusal::Occupied { name } => {
+                Some(name.as_str())
+            }
             _ => None,
         }
     }
@@ -150,6 +171,26 @@ impl Refusal {
     {
         match printed_name(alloc, name) {
             Ok(name) => Refusal::File { name },
+            Err(_) => Refusal::Memory,
+        }
+    }
+
+    /// 92 with the name of the file, or 90 if there is no memory for the name.
+    pub(crate) fn busy(alloc: Global, name: &str) -> Refusal
+        ensures { SaysBusy name.now result }
+    {
+        match printed_name(alloc, name) {
+            Ok(name) => Refusal::Busy { name },
+            Err(_) => Refusal::Memory,
+        }
+    }
+
+    /// 93 with the name of the file, or 90 if there is no memory for the name.
+    pub(crate) fn occupied(alloc: Global, name: &str) -> Refusal
+        ensures { SaysOccupied name.now result }
+    {
+        match printed_name(alloc, name) {
+            Ok(name) => Refusal::Occupied { name },
             Err(_) => Refusal::Memory,
         }
     }

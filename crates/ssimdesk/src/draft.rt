@@ -1,6 +1,6 @@
 //! A file while it is written.
 
-use ssim_program::{Content, StoreFault};
+use ssim_program::{Content, KeepFault, StoreFault};
 use ssim_records::Output;
 use std::alloc::Global;
 use std::io;
@@ -9,7 +9,7 @@ use std::io::{BufWriter, Error, ErrorKind, Write};
 /// The size of the buffer of a file that is written.
 const ROOM: usize = 32_768;
 
-/// Why a file was not read or written.
+/// Why a file was not read.
 pub(crate) fn fault_of(error: &Error) -> StoreFault {
     match error.kind() {
         ErrorKind::OutOfMemory => StoreFault::Memory,
@@ -17,18 +17,26 @@ pub(crate) fn fault_of(error: &Error) -> StoreFault {
     }
 }
 
+/// Why a file was not written.
+pub(crate) fn keep_fault_of(error: &Error) -> KeepFault {
+    match error.kind() {
+        ErrorKind::OutOfMemory => KeepFault::Memory,
+        _ => KeepFault::Fault,
+    }
+}
+
 /// A writer with a buffer that remembers why it failed.
 #[derive(Drop)]
 struct Draft<W: Write + Drop> {
     writer: BufWriter<W>,
-    fault: StoreFault,
+    fault: KeepFault,
 }
 
 impl<W: Write + Drop> Write for Draft<W> {
     fn write(&mut self, bytes: &[u8]) -> io::Result<usize> {
         let written = self.writer.write(bytes);
         if let Err(error) = &written {
-            self.fault = fault_of(error);
+            self.fault = keep_fault_of(error);
         }
         written
     }
@@ -36,7 +44,7 @@ impl<W: Write + Drop> Write for Draft<W> {
     fn flush(&mut self) -> io::Result<()> {
         let flushed = self.writer.flush();
         if let Err(error) = &flushed {
-            self.fault = fault_of(error);
+            self.fault = keep_fault_of(error);
         }
         flushed
     }
@@ -44,7 +52,7 @@ impl<W: Write + Drop> Write for Draft<W> {
 
 impl<W: Write + Drop> Draft<W> {
     /// Writes the content. After a failure nothing more is written.
-    fn put_all<C: Content>(&mut self, content: &C) -> Result<(), StoreFault> {
+    fn put_all<C: Content>(&mut self, content: &C) -> Result<(), KeepFault> {
         let put = content.put(&mut Output::new(&mut *self));
         if put.is_err() || self.flush().is_err() {
             return Err(self.fault);
@@ -58,13 +66,13 @@ pub(crate) fn put_whole<W: Write + Drop, C: Content>(
     alloc: Global,
     file: W,
     content: &C,
-) -> Result<W, StoreFault> {
+) -> Result<W, KeepFault> {
     let Ok(writer) = BufWriter::with_capacity(alloc, ROOM, file) else {
-        return Err(StoreFault::Memory);
+        return Err(KeepFault::Memory);
     };
     let mut draft = Draft {
         writer,
-        fault: StoreFault::Fault,
+        fault: KeepFault::Fault,
     };
     let put = draft.put_all(content);
     let (file, _) = draft.writer.into_parts();

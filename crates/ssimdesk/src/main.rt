@@ -4,7 +4,9 @@
 mod draft;
 mod file_bytes;
 mod files;
+mod hold;
 mod open_file;
+mod part;
 mod whole_file;
 
 use files::FileStore;

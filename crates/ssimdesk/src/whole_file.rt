@@ -1,65 +1,84 @@
 //! Files that are written whole: beside their place, synced, and then renamed.
 
-use crate::draft::{fault_of, put_whole};
-use ssim_program::{Content, StoreFault};
+use crate::draft::{keep_fault_of, put_whole};
+use crate::hold::FileHold;
+use crate::part::{Part, part_of};
+use ssim_program::{Content, Hold, KeepFault};
 use std::alloc::Global;
-use std::fs::{OpenFile, OpenOptions, Permissions};
-use std::io::{ErrorKind, Write};
+use std::fs::{File, Metadata, OpenFile};
+use std::os::unix::fs::MetadataExt;
+use std::path::PathBuf;
 use std::rt::Files;
 use std::{fs, io};
 
-/// How many names beside a place are tried before the file is refused.
-const TRIES: u32 = 100;
+/// How many symbolic links may lead to a place.
+const LINKS: u32 = 40;
 
-/// Writes the content under the name: all of it, or what is there stays as it is, and nothing is
-/// left beside it unless it cannot be removed.
+/// Writes the content in the file that is held: all of it, or what is there stays as it is, and
+/// nothing is left beside it unless it cannot be removed.
 ///
-/// A symbolic link stays, and the file to which it leads is written. A device or a FIFO is written
-/// straight. The permissions of a file that is there are kept.
-pub(crate) fn write_whole<R: Files, C: Content>(
+/// A symbolic link stays, and the file to which it leads is written, whether it is there or not. A
+/// device or a FIFO is written straight. The permissions of a file that is there are kept, and its
+/// owner and group if the system lets us.
+pub(crate) fn write_whole<R: Files<File = File>, C: Content>(
     rt: &R,
     alloc: Global,
-    name: &str,
+    hold: &FileHold,
     content: &C,
-) -> Result<(), StoreFault> {
-    match rt.symlink_metadata(name) {
-        Ok(found) if found.is_symlink() => match rt.canonicalize(alloc, name) {
-            Ok(place) => write_at(rt, alloc, place.as_str(), content),
-            Err(error) => Err(fault_of(&error)),
-        },
-        _ => write_at(rt, alloc, name, content),
+) -> Result<(), KeepFault> {
+    let place = place_of(rt, alloc, hold.name())?;
+    if hold.is_of_other() {
+        return write_straight(rt, alloc, place.as_str(), content);
+    }
+    replace(rt, alloc, hold, place.as_str(), content)
+}
+
+/// The place to which a name leads: the name, or the target of its symbolic links.
+fn place_of<R: Files>(rt: &R, alloc: Global, name: &str) -> Result<String, KeepFault> {
+    let Ok(mut place) = String::from_str(alloc, name) else {
+        return Err(KeepFault::Memory);
+    };
+    for _ in 0..LINKS {
+        match rt.symlink_metadata(place.as_str()) {
+            Ok(found) if found.is_symlink() => place = target_of(rt, alloc, place.as_str())?,
+            _ => return Ok(place),
+        }
+    }
+    Err(KeepFault::Fault)
+}
+
+/// The target of a symbolic link. A relative one begins in the folder of the link.
+fn target_of<R: Files>(rt: &R, alloc: Global, link: &str) -> Result<String, KeepFault> {
+    let target: PathBuf = match rt.read_link(alloc, link) {
+        Ok(target) => target,
+        Err(error) => return Err(keep_fault_of(&error)),
+    };
+    let target = target.as_str();
+    let made = match link.rsplit_once('/') {
+        Some((folder, _)) if !target.starts_with('/') => format!(in alloc; "{folder}/{target}"),
+        _ => String::from_str(alloc, target),
+    };
+    match made {
+        Ok(place) => Ok(place),
+        Err(_) => Err(KeepFault::Memory),
     }
 }
 
-/// Writes the content at a place that is no symbolic link.
-fn write_at<R: Files, C: Content>(
-    rt: &R,
-    alloc: Global,
-    place: &str,
-    content: &C,
-) -> Result<(), StoreFault> {
-    match rt.metadata(place) {
-        Ok(found) if found.is_file() => {
-            replace(rt, alloc, place, content, Some(found.permissions()))
-        }
-        Ok(_) => write_straight(rt, alloc, place, content),
-        Err(error) if error.kind() == ErrorKind::NotFound => {
-            replace(rt, alloc, place, content, None)
-        }
-        Err(error) => Err(fault_of(&error)),
-    }
-}
-
-/// Writes the content to a device or a FIFO.
+/// Writes the content to a device or a FIFO. A file that could not be held is not written.
 fn write_straight<R: Files, C: Content>(
     rt: &R,
     alloc: Global,
     place: &str,
     content: &C,
-) -> Result<(), StoreFault> {
+) -> Result<(), KeepFault> {
+    match rt.metadata(place) {
+        Ok(found) if found.is_file() => return Err(KeepFault::Fault),
+        Ok(_) => {}
+        Err(error) => return Err(keep_fault_of(&error)),
+    }
     let file = match fs::create(rt, place) {
         Ok(file) => file,
-        Err(error) => return Err(fault_of(&error)),
+        Err(error) => return Err(keep_fault_of(&error)),
     };
     match put_whole(alloc, file, content) {
         Ok(_file) => Ok(()),
@@ -67,58 +86,76 @@ fn write_straight<R: Files, C: Content>(
     }
 }
 
-/// Writes a file beside the place, and renames it.
-fn replace<R: Files, C: Content>(
+/// Writes the part of a file, and renames it. After an error it is removed.
+fn replace<R: Files<File = File>, C: Content>(
     rt: &R,
     alloc: Global,
+    hold: &FileHold,
     place: &str,
     content: &C,
-    permissions: Option<Permissions>,
-) -> Result<(), StoreFault> {
-    for number in 0..TRIES {
-        let Ok(beside) = format!(in alloc; "{place}.{number}.part") else {
-            return Err(StoreFault::Memory);
-        };
-        match create(rt, beside.as_str()) {
-            Ok(file) => return fill(rt, alloc, file, &beside, place, content, permissions),
-            Err(error) if error.kind() == ErrorKind::AlreadyExists => {}
-            Err(error) => return Err(fault_of(&error)),
-        }
-    }
-    Err(StoreFault::Fault)
-}
-
-/// Creates a file that is not there.
-fn create<R: Files>(rt: &R, name: &str) -> io::Result<R::File> {
-    let mut options = OpenOptions::new();
-    options.write(true).create_new(true);
-    rt.open_file(&options, name)
-}
-
-/// Fills the file beside the place, renames it, and syncs the folder. After an error it is removed.
-fn fill<R: Files, C: Content>(
-    rt: &R,
-    alloc: Global,
-    file: R::File,
-    beside: &str,
-    place: &str,
-    content: &C,
-    permissions: Option<Permissions>,
-) -> Result<(), StoreFault> {
-    let filled = match write_synced(alloc, file, content, permissions) {
-        Ok(()) => match rt.rename(beside, place) {
-            Ok(()) => Ok(()),
-            Err(error) => Err(fault_of(&error)),
-        },
+) -> Result<(), KeepFault> {
+    let Part { name, file } = part_of(rt, alloc, place)?;
+    let replaced = fill(rt, alloc, file, name.as_str(), place, content);
+    let renamed = match replaced {
+        Ok(file) => rename(rt, hold, file, name.as_str(), place),
         Err(fault) => Err(fault),
     };
-    match filled {
+    match renamed {
         Ok(()) => sync_folder_of(rt, place),
         Err(_) => {
-            let _ = rt.remove_file(beside);
+            let _ = rt.remove_file(name.as_str());
         }
     }
-    filled
+    renamed
+}
+
+/// Writes the content into the part, and waits until the device has it.
+fn fill<R: Files<File = File>, C: Content>(
+    rt: &R,
+    alloc: Global,
+    file: File,
+    part: &str,
+    place: &str,
+    content: &C,
+) -> Result<File, KeepFault> {
+    if let Ok(there) = rt.metadata(place) {
+        if let Err(error) = take_after(rt, &file, part, &there) {
+            return Err(keep_fault_of(&error));
+        }
+    }
+    let file = put_whole(alloc, file, content)?;
+    match file.sync_all() {
+        Ok(()) => Ok(file),
+        Err(error) => Err(keep_fault_of(&error)),
+    }
+}
+
+/// Gives the part the owner and the group of the file that is there, if the system lets us, and its
+/// permissions.
+fn take_after<R: Files>(rt: &R, file: &File, part: &str, there: &Metadata) -> io::Result<()> {
+    let (owner, group) = (there.uid(), there.gid());
+    let own = file.metadata()?;
+    if own.uid() != owner || own.gid() != group {
+        if rt.chown(part, Some(owner), Some(group)).is_err() {
+            let _ = rt.chown(part, None, Some(group));
+        }
+    }
+    file.set_permissions(there.permissions())
+}
+
+/// Gives the part the name of the place, if what is there has not changed since it was held.
+fn rename<R: Files>(
+    rt: &R,
+    hold: &FileHold,
+    _locked: File,
+    part: &str,
+    place: &str,
+) -> Result<(), KeepFault> {
+    hold.check_unchanged(rt, place)?;
+    match rt.rename(part, place) {
+        Ok(()) => Ok(()),
+        Err(error) => Err(keep_fault_of(&error)),
+    }
 }
 
 /// Waits until the device has the new name of a file at the place. An error changes nothing: the
@@ -131,24 +168,5 @@ fn sync_folder_of<R: Files>(rt: &R, place: &str) {
     };
     if let Ok(file) = fs::open(rt, folder) {
         let _ = file.sync_all();
-    }
-}
-
-/// Writes the content into a new file, and waits until the device has it.
-fn write_synced<F: Write + OpenFile + Drop, C: Content>(
-    alloc: Global,
-    file: F,
-    content: &C,
-    permissions: Option<Permissions>,
-) -> Result<(), StoreFault> {
-    if let Some(permissions) = permissions {
-        if let Err(error) = file.set_permissions(permissions) {
-            return Err(fault_of(&error));
-        }
-    }
-    let file = put_whole(alloc, file, content)?;
-    match file.sync_all() {
-        Ok(()) => Ok(()),
-        Err(error) => Err(fault_of(&error)),
     }
 }

@@ -43,6 +43,8 @@ refusal_number refusal.WriteFault = export_fault_number export.WriteFault
 refusal_number (refusal.Script line) = 63
 refusal_number refusal.Memory = 90
 refusal_number (refusal.File name) = 91
+refusal_number (refusal.Busy name) = 92
+refusal_number (refusal.Occupied name) = 93
 
 -- the name of a refusal, which is its fault's name
 abbrev pub refusal_name : Refusal → List ℕ
@@ -57,8 +59,11 @@ refusal_name refusal.WriteFault = export_fault_name export.WriteFault
 refusal_name (refusal.Script line) = codes "Script"
 refusal_name refusal.Memory = memory_name
 refusal_name (refusal.File name) = codes "File"
+refusal_name (refusal.Busy name) = codes "Busy"
+refusal_name (refusal.Occupied name) = codes "Occupied"
 
--- what a refusal names: what its fault names, or the line of a script; the file of 91 is no place
+-- what a refusal names: what its fault names, or the line of a script; the file of 91, 92 and 93 is
+-- no place
 abbrev pub refusal_place : Refusal → Place
 refusal_place (refusal.Value fault) = Nowhere
 refusal_place refusal.Reference = Nowhere
@@ -71,10 +76,14 @@ refusal_place refusal.WriteFault = Nowhere
 refusal_place (refusal.Script line) = Line line
 refusal_place refusal.Memory = Nowhere
 refusal_place (refusal.File name) = Nowhere
+refusal_place (refusal.Busy name) = Nowhere
+refusal_place (refusal.Occupied name) = Nowhere
 
--- the file of 91
+-- the file of 91, 92 and 93
 abbrev pub refusal_file : Refusal → Option (List ℕ)
 refusal_file (refusal.File name) = Some (string_bytes name)
+refusal_file (refusal.Busy name) = Some (string_bytes name)
+refusal_file (refusal.Occupied name) = Some (string_bytes name)
 refusal_file r = None
 
 -- a place in a line, after what comes before it
@@ -154,3 +163,13 @@ refusal_of_export airline export.Memory = refusal.Memory
 abbrev pub IsOfFile : List ℕ → Refusal → Type 0
 IsOfFile name r =
     (r ≡ refusal.Memory) ⊎ (refusal_text r ≡ codes "refused 91 File " ++ printed_name name)
+
+-- the refusal is 92 with this name as it is printed, or memory ran out
+abbrev pub SaysBusy : List ℕ → Refusal → Type 0
+SaysBusy name r =
+    (r ≡ refusal.Memory) ⊎ (refusal_text r ≡ codes "refused 92 Busy " ++ printed_name name)
+
+-- the refusal is 93 with this name as it is printed, or memory ran out
+abbrev pub SaysOccupied : List ℕ → Refusal → Type 0
+SaysOccupied name r =
+    (r ≡ refusal.Memory) ⊎ (refusal_text r ≡ codes "refused 93 Occupied " ++ printed_name name)

@@ -1,11 +1,14 @@
 //! The command `publish`: the messages that lead the timetable of one file to another file's.
 
-ghost use Rattle.std.specs.Prelude.{◌≡◌, IfErr, IfOk};
+ghost use Rattle.std.specs.Prelude.{◌≡◌, IfErr, IfOk, IsTrue};
 ghost use Rattle.ssim_command_line.specs.Line.{Publish};
 ghost use Rattle.ssim_program.specs.Publishing.{PublishesFiles, RefusesPublishing};
+ghost use Rattle.ssim_program.specs.Places.{MayReplace};
 ghost use Rattle.ssim_program.specs.internal.Program.{Prepares, stored};
+ghost use Rattle.ssim_program.specs.declared.content_kind.ContentKind.TheVariants as kind;
 
-use crate::desk_file::keep_content;
+use crate::content_kind::ContentKind;
+use crate::hold::{hold, keep_content};
 use crate::refusal::Refusal;
 use crate::store::Store;
 use crate::timetable_file::open_timetable;
@@ -22,12 +25,31 @@ pub(crate) fn publish<S: Store>(
     name: &str,
     store: &mut S,
 ) -> Result<Vec<u8>, Refusal>
+    requires fresh { IsTrue (S.is_fresh store.now) }
     ensures { Prepares (Publish from.now to.now reference.now name.now)
         (stored (S.files store.old) (S.failures store.old))
         (stored (S.files store.new) (S.failures store.new)) result }
 {
+    let place = hold(alloc, name, ContentKind::Messages, store)?;
+    publish_in(alloc, from, to, reference, &place, store)
+}
+
+/// Keeps the messages that lead one timetable to another in the file that is held.
+fn publish_in<S: Store>(
+    alloc: Global,
+    from: &str,
+    to: &str,
+    reference: &str,
+    place: &S::Hold,
+    store: &mut S,
+) -> Result<Vec<u8>, Refusal>
+    ensures { MayReplace (S.files store.old) (S.Hold.file place.now) kind.Messages
+        → Prepares (Publish from.now to.now reference.now (S.Hold.file place.now))
+        (stored (S.files store.old) (S.failures store.old))
+        (stored (S.files store.new) (S.failures store.new)) result }
+{
     let made = published(alloc, from, to, reference, store)?;
-    keep_content(alloc, &made.mail, name, store)?;
+    keep_content(alloc, &made.mail, place, store)?;
     let Published { lines, .. } = made;
     Ok(lines)
 }

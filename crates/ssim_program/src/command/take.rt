@@ -1,16 +1,20 @@
 //! The command `take`: a desk takes texts, one after another.
 
-ghost use Rattle.std.specs.Prelude.{◌≡◌, IfErr, IfOk, map};
+ghost use Rattle.std.specs.Prelude.{◌≡◌, IfErr, IfOk, IsTrue, map};
 ghost use Rattle.ssim_held.specs.Entries.{state_of};
 ghost use Rattle.ssim_desk.specs.Steps.{RefusesText};
 ghost use Rattle.ssim_program.specs.Desks.{IsTaken, took_printed};
 ghost use Rattle.ssim_program.specs.internal.Take.{PrintsTexts, TakesOrRefuses};
 ghost use Rattle.ssim_command_line.specs.Line.{Take};
+ghost use Rattle.ssim_program.specs.Places.{MayReplace};
 ghost use Rattle.ssim_program.specs.World.{world};
 ghost use Rattle.ssim_program.specs.internal.Program.{Does};
+ghost use Rattle.ssim_program.specs.declared.content_kind.ContentKind.TheVariants as kind;
 
+use crate::content_kind::ContentKind;
 use crate::data_set::load_file;
 use crate::desk_file::{keep, open_holdings};
+use crate::hold::hold;
 use crate::print::printed_line::{PrintedLine, line_of};
 use crate::print::printer::{Printer, print_all};
 use crate::refusal::Refusal;
@@ -30,7 +34,27 @@ pub(crate) fn take<S: Store, W: Write>(
     store: &mut S,
     out: &mut Printer<'_, W>,
 ) -> Result<(), Refusal>
+    requires fresh { IsTrue (S.is_fresh store.now) }
     ensures { Does (Take file.now kept.now (map (λ t. t.now) names.now))
+        (world (S.files store.old) (S.failures store.old) out.old)
+        (world (S.files store.new) (S.failures store.new) out.new) result }
+{
+    let place = hold(alloc, kept, ContentKind::DeskFile, store)?;
+    take_in(alloc, file, &place, names, store, out)
+}
+
+/// Takes the texts in these files at the desk in a file, prints what became of each, and then keeps
+/// the desk file in the file that is held.
+fn take_in<S: Store, W: Write>(
+    alloc: Global,
+    file: &str,
+    place: &S::Hold,
+    names: &[&str],
+    store: &mut S,
+    out: &mut Printer<'_, W>,
+) -> Result<(), Refusal>
+    ensures { MayReplace (S.files store.old) (S.Hold.file place.now) kind.DeskFile
+        → Does (Take file.now (S.Hold.file place.now) (map (λ t. t.now) names.now))
         (world (S.files store.old) (S.failures store.old) out.old)
         (world (S.files store.new) (S.failures store.new) out.new) result }
 {
@@ -39,7 +63,7 @@ pub(crate) fn take<S: Store, W: Write>(
     out.flush()?;
     // No effect at run time. The proof reads from this use that the messages are in order.
     let _ = desk.held();
-    keep(alloc, &desk, kept, store)
+    keep(alloc, &desk, place, store)
 }
 
 /// Takes the texts in these files, and prints what became of each.

@@ -1,13 +1,17 @@
 //! The command `withdraw`: a desk without the messages of some references.
 
-ghost use Rattle.std.specs.Prelude.{◌≡◌, ◌++◌, IfErr, IfOk, map};
+ghost use Rattle.std.specs.Prelude.{◌≡◌, ◌++◌, IfErr, IfOk, IsTrue, map};
 ghost use Rattle.std.specs.FinMap.{contains_key, remove};
 ghost use Rattle.ssim_held.specs.Entries.{map_of};
 ghost use Rattle.ssim_command_line.specs.Line.{Withdraw};
 ghost use Rattle.ssim_program.specs.Withdrawing.{RefusesReferences, WithdrawsFrom, withdrawn_printed};
+ghost use Rattle.ssim_program.specs.Places.{MayReplace};
 ghost use Rattle.ssim_program.specs.internal.Program.{Prepares, stored};
+ghost use Rattle.ssim_program.specs.declared.content_kind.ContentKind.TheVariants as kind;
 
+use crate::content_kind::ContentKind;
 use crate::desk_file::{keep, open_holdings};
+use crate::hold::hold;
 use crate::print::printed_line::{PrintedLine, add_line};
 use crate::refusal::Refusal;
 use crate::store::Store;
@@ -24,7 +28,25 @@ pub(crate) fn withdraw<S: Store>(
     words: &[&str],
     store: &mut S,
 ) -> Result<Vec<u8>, Refusal>
+    requires fresh { IsTrue (S.is_fresh store.now) }
     ensures { Prepares (Withdraw file.now name.now (map (λ t. t.now) words.now))
+        (stored (S.files store.old) (S.failures store.old))
+        (stored (S.files store.new) (S.failures store.new)) result }
+{
+    let place = hold(alloc, name, ContentKind::DeskFile, store)?;
+    withdraw_in(alloc, file, &place, words, store)
+}
+
+/// Keeps the desk file without the messages of these references in the file that is held.
+fn withdraw_in<S: Store>(
+    alloc: Global,
+    file: &str,
+    place: &S::Hold,
+    words: &[&str],
+    store: &mut S,
+) -> Result<Vec<u8>, Refusal>
+    ensures { MayReplace (S.files store.old) (S.Hold.file place.now) kind.DeskFile
+        → Prepares (Withdraw file.now (S.Hold.file place.now) (map (λ t. t.now) words.now))
         (stored (S.files store.old) (S.failures store.old))
         (stored (S.files store.new) (S.failures store.new)) result }
 {
@@ -32,7 +54,7 @@ pub(crate) fn withdraw<S: Store>(
     let lines = withdraw_each(alloc, &mut desk, words)?;
     // No effect at run time. The proof reads from this use that the messages are in order.
     let _ = desk.held();
-    keep(alloc, &desk, name, store)?;
+    keep(alloc, &desk, place, store)?;
     Ok(lines)
 }
 

@@ -17,9 +17,8 @@ use std::alloc::Global;
 pub(crate) fn example(alloc: Global, number: u8) -> Result<Option<Refusal>, Memory>
     ensures { IfOk result (λ found. IfSome found (λ r. refusal_number r ≡ number)) }
 {
-    if number == 91 {
-        let name = String::from_str(alloc, "season.ssim")?;
-        return Ok(Some(Refusal::File { name }));
+    if number > 90 {
+        return of_file(alloc, number);
     }
     if number < 20 {
         return Ok(of_record(number));
@@ -31,6 +30,27 @@ pub(crate) fn example(alloc: Global, number: u8) -> Result<Option<Refusal>, Memo
         return Ok(of_data_set(number));
     }
     Ok(of_desk(number))
+}
+
+/// An example of 91 to 93.
+fn of_file(alloc: Global, number: u8) -> Result<Option<Refusal>, Memory>
+    ensures { IfOk result (λ found. IfSome found (λ r. refusal_number r ≡ number)) }
+{
+    match number {
+        91 => {
+            let name = String::from_str(alloc, "season.ssim")?;
+            Ok(Some(Refusal::File { name }))
+        }
+        92 => {
+            let name = String::from_str(alloc, "fdh.desk")?;
+            Ok(Some(Refusal::Busy { name }))
+        }
+        93 => {
+            let name = String::from_str(alloc, "season.ssim")?;
+            Ok(Some(Refusal::Occupied { name }))
+        }
+        _ => Ok(None),
+    }
 }
 
 /// An example of 1 to 12.

@@ -1,61 +1,20 @@
--- Two desks are opened and merged, and the merged one is kept or not.
-use Rattle.std.proofs.Common.{◌≡◌, ◌∙◌, ℕ, List, [], ◌∷◌, length, Option, ap, subst, inl, inr, refl, rules, Err}
-use Rattle.ssim_held.specs.File.{desk_file}
-use Rattle.ssim_held.specs.Entries.{AreRising, Entry}
-use Rattle.ssim_program.specs.Desks.{ReadsDesk, RefusesDeskFile, RefusesKeep, held_line}
-use Rattle.ssim_program.specs.Files.{Files, with_kept}
+-- The file is held, or the command is refused before it reads anything.
+use Rattle.std.proofs.Common.{◌≡◌, Err, ap, inl, refl, rules}
+use Rattle.ssim_command_line.specs.Line.{Text, Merge}
+use Rattle.ssim_program.specs.declared.content_kind.ContentKind.TheVariants as kind
+use Rattle.ssim_program.proofs.Holding.{may_over, prepares_over}
 use Rattle.ssim_program.proofs.command.merge.merge.Goals as goal
 
-pub returns-in_err-other : goal.returns-in_err-other
-returns-in_err-other g c =
-    let is : c.from_residual-in_err-other.result ≡ Err c.in_err-other.field-0.0 = search rules in
-    let why = subst (λ (f : Option Files). RefusesDeskFile f c.args.theirs.now c.in_err-other.field-0.0) c.open_holdings.ensures.same c.in_err-other.ensures.refused in
-    rw is (
-      inl ((refl, inr (inl ((c.in_ok-desk.desk, c.in_ok-desk.ensures.read), why))), c.open_holdings-2.ensures.counted ∙ c.open_holdings.ensures.counted, refl),
-      c.open_holdings-2.ensures.same ∙ c.open_holdings.ensures.same,
-    )
-
-pub returns-in-Err : goal.returns-in-Err
-returns-in-Err g c =
-    let theirs = subst (λ (f : Option Files). ReadsDesk f c.args.theirs.now c.in_ok-other.other) c.open_holdings.ensures.same c.in_ok-other.ensures.read in (
-      inl (
-        (refl, inr (inr (c.in_ok-desk.desk, c.in_ok-other.other, c.in_ok-desk.ensures.read, theirs, c.in-Err.ensures.why))),
-        c.open_holdings-2.ensures.counted ∙ c.open_holdings.ensures.counted,
-        refl,
-      ),
-      c.open_holdings-2.ensures.same ∙ c.open_holdings.ensures.same,
-    )
+pub returns-in_err-place : goal.returns-in_err-place
+returns-in_err-place g c =
+    let is : c.from_residual.result ≡ Err c.in_err-place.field-0.0 = search rules in
+    rw is (inl (inl (refl, c.in_err-place.ensures.refused), c.hold.ensures.counted, refl), c.hold.ensures.same)
 
 pub returns : goal.returns
 returns g c =
-    let desk = c.merge_desks.new.desk in
-    let name = c.args.name.now in
-    let theirs = subst (λ (f : Option Files). ReadsDesk f c.args.theirs.now c.in_ok-other.other) c.open_holdings.ensures.same c.in_ok-other.ensures.read in
-    let rising = subst AreRising c.held.ensures.value c.held.ensures.rising in
-    let line = c.in_ok-line.ensures ∙ ap (λ (es : List Entry). held_line (length es)) c.held.ensures.value in (
-      inr (record {
-        made = c.in_ok-line.line.items;
-        name = name;
-        bytes = desk_file desk.base desk.held;
-        later = [];
-        makes = (c.in_ok-desk.desk, c.in_ok-other.other, desk, c.in_ok-desk.ensures.read, theirs, c.in-Ok.ensures.merged, rising, line, refl);
-        printed_is = refl;
-        kept_is = refl;
-        why = subst (λ (n : ℕ). RefusesKeep n (g.S.Store.failures c.keep.new.store) name c.in-Err-keep.refusal)
-            (c.open_holdings-2.ensures.counted ∙ c.open_holdings.ensures.counted) c.in-Err-keep.ensures.why;
-      }),
-      c.in-Err-keep.ensures.same ∙ c.open_holdings-2.ensures.same ∙ c.open_holdings.ensures.same,
-    )
-
-pub returns-in-Ok-keep : goal.returns-in-Ok-keep
-returns-in-Ok-keep g c =
-    let desk = c.merge_desks.new.desk in
-    let kept = (c.args.name.now, desk_file desk.base desk.held) ∷ [] in
-    let theirs = subst (λ (f : Option Files). ReadsDesk f c.args.theirs.now c.in_ok-other.other) c.open_holdings.ensures.same c.in_ok-other.ensures.read in
-    let rising = subst AreRising c.held.ensures.value c.held.ensures.rising in
-    let line = c.in_ok-line.ensures ∙ ap (λ (es : List Entry). held_line (length es)) c.held.ensures.value in (
-      kept,
-      (c.in_ok-desk.desk, c.in_ok-other.other, desk, c.in_ok-desk.ensures.read, theirs, c.in-Ok.ensures.merged, rising, line, refl),
-      c.in-Ok-keep.ensures.kept ∙ ap (with_kept kept) (c.open_holdings-2.ensures.same ∙ c.open_holdings.ensures.same),
-      c.in-Ok-keep.ensures.counted ∙ c.open_holdings-2.ensures.counted ∙ c.open_holdings.ensures.counted,
-    )
+    let old = g.S.Store.files c.args.store.now in
+    let mid = g.S.Store.files c.hold.new.store in
+    let file = g.S.Hold.Hold.file c.in_ok-place.place in
+    prepares_over (Merge c.args.mine.now c.args.theirs.now file) (Merge c.args.mine.now c.args.theirs.now c.args.name.now) old mid (g.S.Store.files c.merge_in.new.store) (g.S.Store.failures c.args.store.now) (g.S.Store.failures c.hold.new.store)
+    (g.S.Store.failures c.merge_in.new.store) c.merge_in.result (ap (λ (out : Text). Merge c.args.mine.now c.args.theirs.now out) c.in_ok-place.ensures.name) c.hold.ensures.same c.hold.ensures.counted
+    (c.merge_in.ensures (may_over old mid c.args.name.now file kind.DeskFile c.hold.ensures.same c.in_ok-place.ensures.name c.in_ok-place.ensures.held))

@@ -1,43 +1,20 @@
--- The messages are made, and their file is kept or not.
-use Rattle.std.proofs.Common.{◌≡◌, ◌∙◌, ℕ, [], ◌∷◌, ap, inl, inr, refl, rules, subst, Err}
-use Rattle.ssim_program.specs.Desks.{RefusesKeep}
-use Rattle.ssim_program.specs.Files.{with_kept}
+-- The file is held, or the command is refused before it reads anything.
+use Rattle.std.proofs.Common.{◌≡◌, Err, ap, inl, refl, rules}
+use Rattle.ssim_command_line.specs.Line.{Text, Publish}
+use Rattle.ssim_program.specs.declared.content_kind.ContentKind.TheVariants as kind
+use Rattle.ssim_program.proofs.Holding.{may_over, prepares_over}
 use Rattle.ssim_program.proofs.command.publish.publish.Goals as goal
 
-pub returns-in_err-made : goal.returns-in_err-made
-returns-in_err-made g c =
-    let refusal = c.in_err-made.field-0.0 in
-    let is : c.from_residual.result ≡ Err refusal = search rules in
-    rw is (
-      inl ((refl, c.in_err-made.ensures.refused), c.published.ensures.counted, refl),
-      c.published.ensures.same,
-    )
-
-pub returns-in_err-keep_content : goal.returns-in_err-keep_content
-returns-in_err-keep_content g c =
-    let made = c.in_ok-made.made in let name = c.args.name.now in
-    let refusal = c.in_err-keep_content.field-0.0 in
-    let is : c.from_residual-in_err-keep_content.result ≡ Err refusal = search rules in
-    rw is (
-      inr (record {
-        made = made.lines.items;
-        name = name;
-        bytes = made.mail.items;
-        later = [];
-        makes = (made.mail.items, c.in_ok-made.ensures.made, refl);
-        printed_is = refl;
-        kept_is = refl;
-        why = subst (λ (n : ℕ). RefusesKeep n (g.S.Store.failures c.keep_content.new.store) name refusal) c.published.ensures.counted c.in_err-keep_content.ensures.why;
-      }),
-      c.in_err-keep_content.ensures.same ∙ c.published.ensures.same,
-    )
+pub returns-in_err-place : goal.returns-in_err-place
+returns-in_err-place g c =
+    let is : c.from_residual.result ≡ Err c.in_err-place.field-0.0 = search rules in
+    rw is (inl (inl (refl, c.in_err-place.ensures.refused), c.hold.ensures.counted, refl), c.hold.ensures.same)
 
 pub returns : goal.returns
 returns g c =
-    let made = c.in_ok-made.made in
-    let kept = (c.args.name.now, made.mail.items) ∷ [] in (
-      kept,
-      (made.mail.items, c.in_ok-made.ensures.made, refl),
-      c.in_ok-keep_content.ensures.kept ∙ ap (with_kept kept) c.published.ensures.same,
-      c.in_ok-keep_content.ensures.counted ∙ c.published.ensures.counted,
-    )
+    let old = g.S.Store.files c.args.store.now in
+    let mid = g.S.Store.files c.hold.new.store in
+    let file = g.S.Hold.Hold.file c.in_ok-place.place in
+    prepares_over (Publish c.args.from.now c.args.to.now c.args.reference.now file) (Publish c.args.from.now c.args.to.now c.args.reference.now c.args.name.now) old mid (g.S.Store.files c.publish_in.new.store) (g.S.Store.failures c.args.store.now) (g.S.Store.failures c.hold.new.store)
+    (g.S.Store.failures c.publish_in.new.store) c.publish_in.result (ap (λ (out : Text). Publish c.args.from.now c.args.to.now c.args.reference.now out) c.in_ok-place.ensures.name) c.hold.ensures.same c.hold.ensures.counted
+    (c.publish_in.ensures (may_over old mid c.args.name.now file kind.Messages c.hold.ensures.same c.in_ok-place.ensures.name c.in_ok-place.ensures.held))

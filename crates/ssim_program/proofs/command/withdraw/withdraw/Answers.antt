@@ -1,47 +1,20 @@
--- The desk is opened, the messages are withdrawn, and the desk is kept or not.
-use Rattle.std.proofs.Common.{◌≡◌, ◌∙◌, ℕ, [], ◌∷◌, ap, inl, inr, refl, rules, subst, Err}
-use Rattle.ssim_held.specs.File.{desk_file}
-use Rattle.ssim_held.specs.Entries.{AreRising}
-use Rattle.ssim_program.specs.Desks.{RefusesKeep}
-use Rattle.ssim_program.specs.Files.{with_kept}
+-- The file is held, or the command is refused before it reads anything.
+use Rattle.std.proofs.Common.{◌≡◌, Err, ap, inl, refl, rules, map}
+use Rattle.ssim_command_line.specs.Line.{Text, Withdraw}
+use Rattle.ssim_program.specs.declared.content_kind.ContentKind.TheVariants as kind
+use Rattle.ssim_program.proofs.Holding.{may_over, prepares_over}
 use Rattle.ssim_program.proofs.command.withdraw.withdraw.Goals as goal
 
-pub returns-in_err-lines : goal.returns-in_err-lines
-returns-in_err-lines g c =
-    let refusal = c.in_err-lines.field-0.0 in
-    let is : c.from_residual-in_err-lines.result ≡ Err refusal = search rules in
-    rw is (
-      inl ((refl, inr ((c.in_ok-desk.desk, c.in_ok-desk.ensures.read), c.in_err-lines.ensures.why)), c.open_holdings.ensures.counted, refl),
-      c.open_holdings.ensures.same,
-    )
-
-pub returns-in_err-keep : goal.returns-in_err-keep
-returns-in_err-keep g c =
-    let desk = c.withdraw_each.new.desk in let name = c.args.name.now in
-    let rising = subst AreRising c.held.ensures.value c.held.ensures.rising in
-    let refusal = c.in_err-keep.field-0.0 in
-    let is : c.from_residual-in_err-keep.result ≡ Err refusal = search rules in
-    rw is (
-      inr (record {
-        made = c.in_ok-lines.lines.items;
-        name = name;
-        bytes = desk_file desk.base desk.held;
-        later = [];
-        makes = (c.in_ok-desk.desk, desk, c.in_ok-desk.ensures.read, c.in_ok-lines.ensures.done, rising, refl);
-        printed_is = refl;
-        kept_is = refl;
-        why = subst (λ (n : ℕ). RefusesKeep n (g.S.Store.failures c.keep.new.store) name refusal) c.open_holdings.ensures.counted c.in_err-keep.ensures.why;
-      }),
-      c.in_err-keep.ensures.same ∙ c.open_holdings.ensures.same,
-    )
+pub returns-in_err-place : goal.returns-in_err-place
+returns-in_err-place g c =
+    let is : c.from_residual.result ≡ Err c.in_err-place.field-0.0 = search rules in
+    rw is (inl (inl (refl, c.in_err-place.ensures.refused), c.hold.ensures.counted, refl), c.hold.ensures.same)
 
 pub returns : goal.returns
 returns g c =
-    let desk = c.withdraw_each.new.desk in let name = c.args.name.now in
-    let rising = subst AreRising c.held.ensures.value c.held.ensures.rising in
-    let kept = (name, desk_file desk.base desk.held) ∷ [] in (
-      kept,
-      (c.in_ok-desk.desk, desk, c.in_ok-desk.ensures.read, c.in_ok-lines.ensures.done, rising, refl),
-      c.in_ok-keep.ensures.kept ∙ ap (with_kept kept) c.open_holdings.ensures.same,
-      c.in_ok-keep.ensures.counted ∙ c.open_holdings.ensures.counted,
-    )
+    let old = g.S.Store.files c.args.store.now in
+    let mid = g.S.Store.files c.hold.new.store in
+    let file = g.S.Hold.Hold.file c.in_ok-place.place in
+    prepares_over (Withdraw c.args.file.now file (map (λ t. t.now) c.args.words.now)) (Withdraw c.args.file.now c.args.name.now (map (λ t. t.now) c.args.words.now)) old mid (g.S.Store.files c.withdraw_in.new.store) (g.S.Store.failures c.args.store.now) (g.S.Store.failures c.hold.new.store)
+    (g.S.Store.failures c.withdraw_in.new.store) c.withdraw_in.result (ap (λ (out : Text). Withdraw c.args.file.now out (map (λ t. t.now) c.args.words.now)) c.in_ok-place.ensures.name) c.hold.ensures.same c.hold.ensures.counted
+    (c.withdraw_in.ensures (may_over old mid c.args.name.now file kind.DeskFile c.hold.ensures.same c.in_ok-place.ensures.name c.in_ok-place.ensures.held))

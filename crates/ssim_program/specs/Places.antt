@@ -1,0 +1,46 @@
+-- Which files a command may replace, and when it holds the place of one.
+use Rattle.std.specs.Prelude.{◌≡◌, ◌==◌, ◌||◌, ◌&&◌, ℕ, Bool, false, not, nat_eq, List, IfSome, IsTrue, ⊤}
+use Rattle.std.specs.Prelude.{Option, None, Some, Result, Ok, Err, codes, length}
+use Rattle.std.specs.List.{starts_with}
+use Rattle.ssim_program.specs.Files.{Files, file_of}
+use Rattle.ssim_program.specs.declared.content_kind.ContentKind.{ContentKind}
+use Rattle.ssim_program.specs.declared.content_kind.ContentKind.TheVariants as kind
+use Rattle.ssim_program.specs.declared.store.HoldFault.{HoldFault}
+use Rattle.ssim_program.specs.declared.store.HoldFault.TheVariants as fault
+
+-- whether bytes begin as a desk file does
+abbrev pub begins_desk_file : List ℕ → Bool
+begins_desk_file bytes = starts_with nat_eq bytes (codes "SSIMDESK ")
+
+-- whether bytes begin as a data set does
+abbrev pub begins_data_set : List ℕ → Bool
+begins_data_set bytes = starts_with nat_eq bytes (codes "1AIRLINE STANDARD SCHEDULE DATA SET")
+
+-- Whether what a command keeps may replace a file of these bytes. A desk file replaces a desk file
+-- or an empty file; messages replace any file but a desk file and a data set; refused texts replace
+-- an empty file alone.
+abbrev pub replaces : ContentKind → List ℕ → Bool
+replaces kind.DeskFile bytes = (length bytes == 0) || begins_desk_file bytes
+replaces kind.Messages bytes = not (begins_desk_file bytes) && not (begins_data_set bytes)
+replaces kind.RefusedTexts bytes = length bytes == 0
+
+-- the file of this name may be replaced, or there is none, or the contract cannot see the files
+abbrev pub MayReplace : Option Files → List ℕ → ContentKind → Type 0
+MayReplace files name kept =
+    IfSome files (λ all. IfSome (file_of all name) (λ bytes. IsTrue (replaces kept bytes)))
+
+-- the file of this name may not be replaced, if the contract can see the files
+abbrev pub IsOccupied : Option Files → List ℕ → ContentKind → Type 0
+IsOccupied files name kept = IfSome files
+    (λ all. (bytes : List ℕ) × (file_of all name ≡ Some bytes) × (replaces kept bytes ≡ false))
+
+-- A store holds the file of this name for a command that may replace it. It refuses a file that may
+-- not be replaced. No file of a store that the contract can see is held by another command, or
+-- cannot be read.
+abbrev pub HoldsFile : {H : Type 0} → Option Files → List ℕ → ContentKind → Result H HoldFault
+    → Type 0
+HoldsFile files name kept (Ok hold) = MayReplace files name kept
+HoldsFile files name kept (Err fault.Memory) = ⊤
+HoldsFile files name kept (Err fault.Occupied) = IsOccupied files name kept
+HoldsFile files name kept (Err fault.Fault) = files ≡ None
+HoldsFile files name kept (Err fault.Busy) = files ≡ None
