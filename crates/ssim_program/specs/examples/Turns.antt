@@ -2,12 +2,13 @@
 use Rattle.std.specs.Prelude.{◌≡◌, ◌⊎◌, ◌==◌, ℕ, if◌then◌else◌, List, [], ◌∷◌, codes, Some, None, refl}
 use Rattle.std.proofs.Common.{inl, inr}
 use Rattle.ssim_text.specs.Message.{MessageValue}
+use Rattle.ssim_text.specs.Reference.{SpellsReference}
 use Rattle.ssim_text.specs.declared.reference.Reference.{Reference}
 use Rattle.ssim_command_line.specs.Line.{Text, Take}
 use Rattle.ssim_program.specs.Files.{Files, file_of}
-use Rattle.ssim_program.specs.Offices.{Began, Brought, Done, Event, IsSaidTo}
-use Rattle.ssim_program.specs.Turns.{AreAllowed, BroughtInTurn, Comes, Ends, Holds, Keeps}
-use Rattle.ssim_program.specs.Turns.{MakesFile, Reads, Step, files_after, holder_of, read_by}
+use Rattle.ssim_program.specs.Offices.{Began, Brought, Done, Event, IsSaidTo, Withdrew}
+use Rattle.ssim_program.specs.Turns.{AllLeaveMessage, AreAllowed, BroughtInTurn, Comes, Ends, Holds}
+use Rattle.ssim_program.specs.Turns.{Keeps, LeavesMessage, MakesFile, Reads, Step, files_after, holder_of, read_by}
 
 abbrev desk : Text
 desk = codes "fdh.desk"
@@ -63,6 +64,18 @@ brought_by_both : (kept again : List ℕ) (reference : Reference) (message : Mes
     ⊎ IsSaidTo ((holiday, 2 ∷ []) ∷ (desk, 1 ∷ []) ∷ []) desk (holiday ∷ []) reference message)
     ⊎ IsSaidTo ((strike, 3 ∷ []) ∷ (desk, kept) ∷ []) desk (strike ∷ []) reference message)
 brought_by_both kept again reference message = refl
+
+-- what command 1 has kept, command 2 leaves in the desk file
+second_leaves_the_first : (again : List ℕ) (reference : Reference)
+    → AllLeaveMessage takes desk reference
+    (Keeps 2 desk again ∷ Reads 2 strike ∷ Reads 2 desk ∷ Holds 2 desk ∷ Ends 1 ∷ [])
+second_leaves_the_first again reference = (λ same. refl, tt)
+
+-- `withdraw` in place leaves each message but the one that it names
+withdraw_leaves_others : (reference : Reference)
+    → LeavesMessage desk reference (Withdrew desk (codes "SSM 15MAR27 00002 001" ∷ []))
+    ≡ ((desk ≡ desk) × ((SpellsReference reference (codes "SSM 15MAR27 00002 001") ⊎ ⊥) → ⊥))
+withdraw_leaves_others reference = refl
 
 -- while command 1 holds the desk file, command 2 cannot hold it
 both_at_once : AreAllowed takes before (Holds 2 desk ∷ Reads 1 desk ∷ Holds 1 desk ∷ []) → ⊥
