@@ -23,6 +23,7 @@ pub mod Origins
 pub mod SavedDesks
 pub mod AcceptedTexts
 pub mod Offices
+pub mod Turns
 pub mod Prints
 pub mod Verdict
 pub mod Did

@@ -17,6 +17,7 @@ pub mod Effects
 pub mod Again
 pub mod World
 pub mod Offices
+pub mod Turns
 pub mod Help
 pub mod rehearse
 pub mod Explained

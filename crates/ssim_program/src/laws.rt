@@ -7,10 +7,13 @@ ghost use Rattle.ssim_command_line.specs.declared.command_line.ListForm.{ListFor
 ghost use Rattle.ssim_program.specs.Again.{TidiesOnce};
 ghost use Rattle.ssim_program.specs.Offices.{HoldsWhatWasBrought, OfficesAgree, PrintsTheSame};
 ghost use Rattle.ssim_program.specs.FirstProblem.{RefusalIsFirstProblem};
+ghost use Rattle.ssim_program.specs.Turns.{HoldsWhatCameInTurn, NothingHeldIsLost};
+ghost use Rattle.ssim_program.specs.Turns.{NothingTakenIsLost, TakesTurns};
 ghost use Rattle.ssim_program.specs.rehearse.Verdict.{EndsWithSame};
 // The worked examples, which are computed: a false one is an error in this file.
 ghost use Rattle.ssim_program.specs.examples.Histories;
 ghost use Rattle.ssim_program.specs.examples.Scripts;
+ghost use Rattle.ssim_program.specs.examples.Turns;
 
 use ssim_base::laws::{
     same_bytes_same_base, same_bytes_same_problems, same_bytes_same_rows, written_bases_are_read,
@@ -42,6 +45,20 @@ pub fn offices_agree()
     no_two_desks_have_one_file();
     same_bytes_same_base();
     same_bytes_same_rows();
+}
+
+/// Commands that run at once and hold the files that they keep take turns: each replaces the very
+/// file that it read. So a desk file holds the messages that were brought to it, one command after
+/// another, and no others; and no message that it held or that a command took is lost, until a
+/// `withdraw` names it or a file is put there that was not made of this one. That no two commands hold
+/// one file is a premise.
+pub fn nothing_taken_is_lost()
+    ensures order { TakesTurns }
+    ensures holds { HoldsWhatCameInTurn }
+    ensures held { NothingHeldIsLost }
+    ensures taken { NothingTakenIsLost }
+{
+    offices_agree();
 }
 
 /// Of two equal desk files `texts`, `show`, `history`, `list`, `board`, `calendar`, `findings` and
