@@ -1,0 +1,146 @@
+//! A text of which some lines are read.
+ghost use Rattle.std.specs.Prelude.{◌≡◌, ◌++◌, [], ◌∷◌, List, IfOk, OnOk, false, option_map, true};
+ghost use Rattle.std.specs.Option.{option_to_list};
+ghost use Rattle.ssim_mailbox.specs.declared.free_text.FreeText.TheVariants.{Ahead};
+ghost use Rattle.ssim_mailbox.specs.FreeTexts.{free_after};
+ghost use Rattle.ssim_mailbox.specs.Lines.{MailLine};
+ghost use Rattle.ssim_mailbox.specs.Mail.{mail_of};
+ghost use Rattle.ssim_mailbox.specs.Texts.{is_empty, text_from, trimmed, with_line};
+ghost use Rattle.ssim_mailbox.specs.internal.Lines.{line_of};
+ghost use Rattle.ssim_mailbox.specs.internal.Texts.{IsDraft, number_from, texts_with};
+
+use crate::free_text::FreeText;
+use crate::line::Line;
+use crate::role::Role;
+use crate::text::Text;
+use std::alloc::{AllocError, Global};
+use std::mem;
+
+/// A text of which some lines are read.
+#[derive(Drop)]
+pub(crate) struct Draft {
+    /// The number of its first line, once there is one.
+    line: usize,
+    /// Its lines, each of which LF ends. There are none before the first that is not empty.
+    bytes: Vec<u8>,
+    /// How many of the bytes end with the last line that is not empty.
+    end: usize,
+    /// Its free text.
+    free: FreeText,
+}
+
+impl Draft {
+    /// A draft without lines.
+    pub(crate) fn new(alloc: Global) -> Draft
+        ensures draft { IsDraft result [] }
+        ensures free { result.free ≡ Ahead }
+    {
+        Draft {
+            line: 0,
+            bytes: Vec::new(alloc),
+            end: 0,
+            free: FreeText::Ahead,
+        }
+    }
+
+    /// The text of the lines, if there is any. Afterwards the draft has no lines.
+    pub(crate) fn finish(&mut self, alloc: Global) -> Option<Text>
+        ensures text { (begun : List MailLine) → IsDraft self.old begun
+            → option_map mail_of result ≡ text_from (trimmed begun) }
+        ensures draft { IsDraft self.new [] }
+        ensures free { self.new.free ≡ Ahead }
+    {
+        let draft = mem::replace(self, Draft::new(alloc));
+        let mut bytes = draft.bytes;
+        if bytes.is_empty() {
+            return None;
+        }
+        bytes.truncate(draft.end);
+        Some(Text {
+            line: draft.line,
+            bytes,
+        })
+    }
+
+    /// The number of the first line, if a line of this number is added.
+    fn number_from(&self, number: usize) -> usize
+        ensures { result ≡ number_from self.now.bytes.items self.now.line number }
+    {
+        if self.bytes.is_empty() {
+            number
+        } else {
+            self.line
+        }
+    }
+
+    /// Adds a line that is not empty.
+    fn push_filled(&mut self, line: &Line) -> Result<(), AllocError>
+        ensures draft { OnOk result (is_empty (line_of line.now) ≡ false
+            → (begun : List MailLine) → IsDraft self.old begun
+            → IsDraft self.new (begun ++ line_of line.now ∷ [])) }
+        ensures free { self.new.free ≡ self.old.free }
+    {
+        self.line = self.number_from(line.number);
+        self.bytes.extend_from_slice(line.bytes)?;
+        self.bytes.push(b'\n')?;
+        self.end = self.bytes.len();
+        Ok(())
+    }
+
+    /// Adds an empty line.
+    fn push_empty(&mut self) -> Result<(), AllocError>
+        ensures draft { OnOk result ((line : MailLine) → is_empty line ≡ true
+            → (begun : List MailLine) → IsDraft self.old begun
+            → IsDraft self.new (begun ++ line ∷ [])) }
+        ensures free { self.new.free ≡ self.old.free }
+    {
+        if !self.bytes.is_empty() {
+            self.bytes.push(b'\n')?;
+        }
+        Ok(())
+    }
+
+    /// Adds a line.
+    fn push(&mut self, line: &Line) -> Result<(), AllocError>
+        ensures draft { OnOk result ((begun : List MailLine) → IsDraft self.old begun
+            → IsDraft self.new (begun ++ line_of line.now ∷ [])) }
+        ensures free { OnOk result
+            (self.new.free ≡ free_after self.old.free line.now.bytes.now) }
+    {
+        self.free = self.free.after(line.bytes);
+        if line.bytes.is_empty() {
+            self.push_empty()
+        } else {
+            self.push_filled(line)
+        }
+    }
+
+    /// Adds a line by its role. Returns the text that it ends or follows, if there is any.
+    pub(crate) fn add(
+        &mut self,
+        alloc: Global,
+        line: &Line,
+        role: Role,
+    ) -> Result<Option<Text>, AllocError>
+        ensures { IfOk result (λ text. (begun : List MailLine) → IsDraft self.old begun
+            → (left : List MailLine) × IsDraft self.new left
+            × ((parts : List (List MailLine))
+            → texts_with begun self.old.free (with_line role (line_of line.now) parts)
+            ≡ option_to_list (option_map mail_of text) ++ texts_with left self.new.free parts)) }
+    {
+        match role {
+            Role::First => {
+                let text = self.finish(alloc);
+                self.push(line)?;
+                Ok(text)
+            }
+            Role::Inside if self.free.is_ended_by(line.bytes) => Ok(self.finish(alloc)),
+            Role::Inside => {
+                self.push(line)?;
+                Ok(None)
+            }
+            Role::Envelope => Ok(None),
+            Role::End => Ok(self.finish(alloc)),
+        }
+    }
+}
