@@ -1,3 +1,4 @@
 -- Computed examples.
 pub mod Scripts
 pub mod Histories
+pub mod Names
