@@ -140,7 +140,7 @@ emptied_none n bytes end begun line is empty h =
     let none = nothing_written (drop_while is_empty begun) (sym is ∙ h.bytes_are) in
     same_left n bytes end begun (begun ++ line ∷ []) (none_left is_empty begun line empty none ∙ sym none) h
 
-no_bytes : (bytes : List ℕ) → (length bytes == 0) ≡ true → bytes ≡ []
+pub no_bytes : (bytes : List ℕ) → (length bytes == 0) ≡ true → bytes ≡ []
 no_bytes [] h = refl
 no_bytes (b ∷ bytes) h = absurd (grind (arith, nat_tests))
 
@@ -190,7 +190,7 @@ text_found n bytes end begun some h = text_at n bytes end begun (drop_while is_e
 
 -- ---- the parts
 
-ended_some : (free : FreeText) (lines : List MailLine) → (part : List MailLine) × (parts : List (List MailLine)) × (ended free lines ≡ part ∷ parts)
+pub ended_some : (free : FreeText) (lines : List MailLine) → (part : List MailLine) × (parts : List (List MailLine)) × (ended free lines ≡ part ∷ parts)
 ended_some free [] = ([], [], refl)
 ended_some free (line ∷ lines) = choose (ends_text free line.bytes) refl (ended_some (free_after free line.bytes) lines)
   where
@@ -225,12 +225,13 @@ one_text : (text : Option MailText) (texts : List MailText) → cons_option text
 one_text None texts = refl
 one_text (Some text) texts = refl
 
--- the lines that have begun are a text, and the next one begins with this line
-pub begins : (begun : List MailLine) (free : FreeText) (line : MailLine) (parts : List (List MailLine))
-    → texts_with begun free ([] ∷ onto_first line parts) ≡ option_to_list (text_from (trimmed begun)) ++ texts_with (line ∷ []) (free_after Ahead line.bytes) parts
-begins begun free line parts =
-    ap (λ (lines : List MailLine). texts_of (lines ∷ cut_parts (onto_first line parts))) (append-nil begun) ∙ one_text (text_from (trimmed begun)) (texts_of (cut_parts (onto_first line parts)))
-    ∙ ap (λ (texts : List MailText). option_to_list (text_from (trimmed begun)) ++ texts) (none_begun (onto_first line parts) ∙ one_more [] Ahead line parts refl)
+-- lines without bytes are no text
+pub no_text : (n : ℕ) (bytes : List ℕ) (end : ℕ) (begun : List MailLine) → bytes ≡ [] → HasLines n bytes end begun → text_from (trimmed begun) ≡ None
+no_text n bytes end begun is h = let none = nothing_written (drop_while is_empty begun) (sym is ∙ h.bytes_are) in ap (λ (lines : List MailLine). text_from (drop_while_at_end is_empty lines)) none
+
+-- the lines that have begun are a text, and none has begun below them
+pub ended_text : (begun : List MailLine) (free : FreeText) (parts : List (List MailLine)) → texts_with begun free ([] ∷ parts) ≡ option_to_list (text_from (trimmed begun)) ++ texts_of (cut_parts parts)
+ended_text begun free parts = ap (λ (lines : List MailLine). texts_of (lines ∷ cut_parts parts)) (append-nil begun) ∙ one_text (text_from (trimmed begun)) (texts_of (cut_parts parts))
 
 -- no line is left
 pub last_text : (begun : List MailLine) (free : FreeText) → texts_with begun free ([] ∷ []) ≡ option_to_list (text_from (trimmed begun))

@@ -1,20 +1,18 @@
 //! A text of which some lines are read.
-ghost use Rattle.std.specs.Prelude.{◌≡◌, ◌++◌, [], ◌∷◌, List, IfOk, OnOk, false, option_map, true};
-ghost use Rattle.std.specs.Option.{option_to_list};
+ghost use Rattle.std.specs.Prelude.{◌≡◌, ◌≤◌, ◌++◌, [], ◌∷◌, List, None, OnOk, false, length, option_map, true};
 ghost use Rattle.ssim_mailbox.specs.declared.free_text.FreeText.TheVariants.{Ahead};
 ghost use Rattle.ssim_mailbox.specs.FreeTexts.{free_after};
 ghost use Rattle.ssim_mailbox.specs.Lines.{MailLine};
 ghost use Rattle.ssim_mailbox.specs.Mail.{mail_of};
 ghost use Rattle.ssim_mailbox.specs.Texts.{is_empty, text_from, trimmed, with_line};
 ghost use Rattle.ssim_mailbox.specs.internal.Lines.{line_of};
-ghost use Rattle.ssim_mailbox.specs.internal.Texts.{IsDraft, number_from, texts_with};
+ghost use Rattle.ssim_mailbox.specs.internal.Texts.{IsDraft, ends_by, number_from, texts_with};
 
 use crate::free_text::FreeText;
 use crate::line::Line;
 use crate::role::Role;
 use crate::text::Text;
 use std::alloc::{AllocError, Global};
-use std::mem;
 
 /// A text of which some lines are read.
 #[derive(Drop)]
@@ -29,6 +27,17 @@ pub(crate) struct Draft {
     free: FreeText,
 }
 
+/// Whether a line of this role ends the text above it.
+fn ends(free: FreeText, role: Role, line: &[u8]) -> bool
+    ensures { result ≡ ends_by free role line.now }
+{
+    match role {
+        Role::First | Role::End => true,
+        Role::Inside => free.is_ended_by(line),
+        Role::Envelope => false,
+    }
+}
+
 impl Draft {
     /// A draft without lines.
     pub(crate) fn new(alloc: Global) -> Draft
@@ -41,25 +50,6 @@ impl Draft {
             end: 0,
             free: FreeText::Ahead,
         }
-    }
-
-    /// The text of the lines, if there is any. Afterwards the draft has no lines.
-    pub(crate) fn finish(&mut self, alloc: Global) -> Option<Text>
-        ensures text { (begun : List MailLine) → IsDraft self.old begun
-            → option_map mail_of result ≡ text_from (trimmed begun) }
-        ensures draft { IsDraft self.new [] }
-        ensures free { self.new.free ≡ Ahead }
-    {
-        let draft = mem::replace(self, Draft::new(alloc));
-        let mut bytes = draft.bytes;
-        if bytes.is_empty() {
-            return None;
-        }
-        bytes.truncate(draft.end);
-        Some(Text {
-            line: draft.line,
-            bytes,
-        })
     }
 
     /// The number of the first line, if a line of this number is added.
@@ -115,32 +105,54 @@ impl Draft {
         }
     }
 
-    /// Adds a line by its role. Returns the text that it ends or follows, if there is any.
-    pub(crate) fn add(
-        &mut self,
-        alloc: Global,
-        line: &Line,
-        role: Role,
-    ) -> Result<Option<Text>, AllocError>
-        ensures { IfOk result (λ text. (begun : List MailLine) → IsDraft self.old begun
-            → (left : List MailLine) × IsDraft self.new left
+    /// Whether a line of this role ends the text of the lines. There is none before a line that is
+    /// not empty.
+    pub(crate) fn is_ended_by(&self, role: Role, line: &Line) -> bool
+        ensures yes { result ≡ true → (1 ≤ length self.now.bytes.items)
+            × (ends_by self.now.free role line.now.bytes.now ≡ true) }
+        ensures no { result ≡ false → ends_by self.now.free role line.now.bytes.now ≡ true
+            → self.now.bytes.items ≡ [] }
+    {
+        !self.bytes.is_empty() && ends(self.free, role, line.bytes)
+    }
+
+    /// Adds a line by its role, if it does not end the text of the lines.
+    pub(crate) fn add(&mut self, alloc: Global, role: Role, line: &Line) -> Result<(), AllocError>
+        requires { ends_by self.old.free role line.now.bytes.now ≡ true
+            → self.old.bytes.items ≡ [] }
+        ensures { OnOk result ((begun : List MailLine) → IsDraft self.old begun
+            → (more : List MailLine) × IsDraft self.new more
             × ((parts : List (List MailLine))
             → texts_with begun self.old.free (with_line role (line_of line.now) parts)
-            ≡ option_to_list (option_map mail_of text) ++ texts_with left self.new.free parts)) }
+            ≡ texts_with more self.new.free parts)) }
     {
         match role {
             Role::First => {
-                let text = self.finish(alloc);
+                *self = Draft::new(alloc);
                 self.push(line)?;
-                Ok(text)
             }
-            Role::Inside if self.free.is_ended_by(line.bytes) => Ok(self.finish(alloc)),
-            Role::Inside => {
-                self.push(line)?;
-                Ok(None)
-            }
-            Role::Envelope => Ok(None),
-            Role::End => Ok(self.finish(alloc)),
+            Role::Inside if self.free.is_ended_by(line.bytes) => *self = Draft::new(alloc),
+            Role::Inside => self.push(line)?,
+            Role::Envelope => {}
+            Role::End => *self = Draft::new(alloc),
         }
+        Ok(())
+    }
+
+    /// The text of the lines, if there is any.
+    pub(crate) fn into_text(self) -> Option<Text>
+        ensures text { (begun : List MailLine) → IsDraft self begun
+            → option_map mail_of result ≡ text_from (trimmed begun) }
+        ensures none { result ≡ None → self.bytes.items ≡ [] }
+    {
+        let mut bytes = self.bytes;
+        if bytes.is_empty() {
+            return None;
+        }
+        bytes.truncate(self.end);
+        Some(Text {
+            line: self.line,
+            bytes,
+        })
     }
 }

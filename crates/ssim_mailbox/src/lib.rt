@@ -1,7 +1,8 @@
 //! The texts of a mailbox file: SSM and ASM texts as they come by mail or by teletype, with their
 //! envelopes, any number in one file.
 //!
-//! - [`texts`]: the texts in order, each a [`Text`] with its bytes and the line on which it begins.
+//! - [`Texts`]: the texts in order, one at a time, each a [`Text`] with its bytes and the line on
+//!   which it begins.
 //!
 //! Control characters at both ends of a line, and blanks and CR bytes at its end are dropped first.
 //! A line `SSM` or `ASM` begins a text, or the origin line above it. `NNNN` ends one, and so does an
@@ -21,4 +22,4 @@ mod role;
 mod text;
 
 pub use laws::worked_mailboxes;
-pub use text::{Text, texts};
+pub use text::{Text, Texts};

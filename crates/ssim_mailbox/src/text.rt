@@ -1,17 +1,16 @@
 //! The texts of a mailbox.
-ghost use Rattle.std.specs.Prelude.{◌≡◌, [], ◌++◌, IfOk, OnOk, map, option_map};
+ghost use Rattle.std.specs.Prelude.{◌≡◌, [], ◌++◌, IfOk, None, Ok, option_map};
 ghost use Rattle.std.specs.Option.{option_to_list};
-ghost use Rattle.ssim_mailbox.specs.Texts.{parts_of, texts_in, texts_of};
-ghost use Rattle.ssim_mailbox.specs.FreeTexts.{cut_parts};
+ghost use Rattle.ssim_mailbox.specs.Texts.{texts_in};
 ghost use Rattle.ssim_mailbox.specs.Mail.{mail_of};
-ghost use Rattle.ssim_mailbox.specs.internal.Lines.{lines_of};
-ghost use Rattle.ssim_mailbox.specs.internal.Roles.{roles_of};
+ghost use Rattle.ssim_mailbox.specs.internal.Texts.{AreRolesOf, texts_left};
 
 use crate::draft::Draft;
-use crate::line::{Line, lines};
+use crate::line::Lines;
 use crate::role::{Role, roles};
 use ssim_values::Memory;
 use std::alloc::{AllocError, Global};
+use std::marker::Model;
 
 /// A text of a mailbox.
 #[derive(Debug, Drop)]
@@ -22,38 +21,67 @@ pub struct Text {
     pub bytes: Vec<u8>,
 }
 
-/// Adds a text, if there is any.
-fn push_text(texts: &mut Vec<Text>, text: Option<Text>) -> Result<(), AllocError>
-    ensures { OnOk result (map mail_of texts.new.items
-        ≡ map mail_of texts.old.items ++ option_to_list (option_map mail_of text)) }
-{
-    if let Some(text) = text {
-        texts.push(text)?;
-    }
-    Ok(())
+/// The texts of a mailbox that are left. Beside the mailbox there is a byte for each of its lines.
+#[derive(Drop)]
+pub struct Texts<'a> {
+    /// The lines that are left.
+    lines: Lines<'a>,
+    /// The roles of all lines, as if none were under a dot.
+    roles: Vec<Role>,
 }
 
-/// The texts of lines, by their roles.
-fn divided(alloc: Global, lines: &[Line], roles: &[Role]) -> Result<Vec<Text>, AllocError>
-    requires { roles.now ≡ roles_of (lines_of lines.now) }
-    ensures { IfOk result
-        (λ v. map mail_of v.items ≡ texts_of (cut_parts (parts_of (lines_of lines.now)))) }
+impl<'a> Model for Texts<'a> {
+    ghost use Rattle.std.specs.Prelude.{List};
+    ghost use Rattle.ssim_mailbox.specs.Texts.{MailText};
+    ghost use Rattle.ssim_mailbox.specs.internal.Texts.{AreRolesOf, texts_left};
+
+    ghost Value = { List MailText };
+
+    ghost view = { λ t. texts_left t.lines };
+
+    ghost invariant = { λ t. AreRolesOf t.roles.items t.lines };
+}
+
+impl<'a> Texts<'a> {
+    /// The texts of a mailbox, in order.
+    pub fn new(alloc: Global, mailbox: &'a [u8]) -> Result<Texts<'a>, Memory>
+        ensures { IfOk result (λ texts. texts ≡ texts_in mailbox.now) }
+    {
+        Ok(Texts {
+            lines: Lines::new(mailbox),
+            roles: roles(alloc, mailbox)?,
+        })
+    }
+
+    /// The next text, if there is one.
+    pub fn next_text(&mut self, alloc: Global) -> Result<Option<Text>, Memory>
+        ensures next { IfOk result
+            (λ text. self.old ≡ option_to_list (option_map mail_of text) ++ self.new) }
+        ensures none { result ≡ Ok None → self.old ≡ [] }
+    {
+        Ok(read_text(alloc, &mut self.lines, &self.roles)?)
+    }
+}
+
+/// The first text of the lines that are left, if there is one. A line that ends it is left.
+fn read_text(alloc: Global, lines: &mut Lines, roles: &[Role]) -> Result<Option<Text>, AllocError>
+    requires { AreRolesOf roles.now lines.old }
+    ensures roles { AreRolesOf roles.now lines.new }
+    ensures text { IfOk result (λ text. texts_left lines.old
+        ≡ option_to_list (option_map mail_of text) ++ texts_left lines.new) }
+    ensures none { result ≡ Ok None → texts_left lines.new ≡ [] }
 {
-    let mut texts = Vec::new(alloc);
     let mut draft = Draft::new(alloc);
-    for (at, line) in lines.iter().enumerate() {
-        let text = draft.add(alloc, line, roles[at])?;
-        push_text(&mut texts, text)?;
+    loop {
+        let mut after = *lines;
+        let Some(line) = after.next() else {
+            return Ok(draft.into_text());
+        };
+        let role = roles[lines.above].of(&line);
+        if draft.is_ended_by(role, &line) {
+            return Ok(draft.into_text());
+        }
+        *lines = after;
+        draft.add(alloc, role, &line)?;
     }
-    push_text(&mut texts, draft.finish(alloc))?;
-    Ok(texts)
-}
-
-/// The texts of a mailbox, in order.
-pub fn texts(alloc: Global, mailbox: &[u8]) -> Result<Vec<Text>, Memory>
-    ensures { IfOk result (λ v. map mail_of v.items ≡ texts_in mailbox.now) }
-{
-    let lines = lines(alloc, mailbox)?;
-    let roles = roles(alloc, &lines)?;
-    Ok(divided(alloc, &lines, &roles)?)
 }

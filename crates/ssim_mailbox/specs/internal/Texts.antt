@@ -1,10 +1,15 @@
 -- Texts of which one has begun.
-use Rattle.std.specs.Prelude.{◌≡◌, ℕ, List, [], ◌∷◌, ◌++◌, ◌≤◌, length, take}
+use Rattle.std.specs.Prelude.{◌≡◌, ℕ, Bool, false, true, List, [], ◌∷◌, ◌++◌, ◌≤◌, drop, length, take}
 use Rattle.ssim_mailbox.specs.declared.draft.Draft.{Draft}
 use Rattle.ssim_mailbox.specs.declared.free_text.FreeText.{FreeText}
-use Rattle.ssim_mailbox.specs.FreeTexts.{cut_parts, ended}
+use Rattle.ssim_mailbox.specs.declared.line.Lines.{Lines}
+use Rattle.ssim_mailbox.specs.declared.role.Role.{Role}
+use Rattle.ssim_mailbox.specs.declared.role.Role.TheVariants.{First, Inside, Envelope, End}
+use Rattle.ssim_mailbox.specs.FreeTexts.{cut_parts, ended, ends_text}
 use Rattle.ssim_mailbox.specs.Lines.{MailLine, drop_while}
-use Rattle.ssim_mailbox.specs.Texts.{MailText, is_empty, texts_of, trimmed, written}
+use Rattle.ssim_mailbox.specs.Texts.{MailText, is_empty, parts_of, texts_of, trimmed, written}
+use Rattle.ssim_mailbox.specs.internal.Lines.{lines_left, pieces_left}
+use Rattle.ssim_mailbox.specs.internal.Roles.{AreRoles}
 
 -- the number is the number of the first of these lines, if there is any
 abbrev pub IsFirstNumber : ℕ → List MailLine → Type 0
@@ -41,3 +46,19 @@ ended_from free (part ∷ parts) = ended free part ++ cut_parts parts
 -- the texts of the parts, the first of which begins with these lines, that leave this free text
 abbrev pub texts_with : List MailLine → FreeText → List (List MailLine) → List MailText
 texts_with begun free parts = texts_of (onto_begun begun (ended_from free parts))
+
+-- whether a line of this role ends the text above it, with this free text
+abbrev pub ends_by : FreeText → Role → List ℕ → Bool
+ends_by free First line = true
+ends_by free Inside line = ends_text free line
+ends_by free Envelope line = false
+ends_by free End line = true
+
+-- the texts of the lines that are left
+abbrev pub texts_left : Lines → List MailText
+texts_left lines = texts_of (cut_parts (parts_of (lines_left lines)))
+
+-- the roles are those of all lines, as if none were under a dot
+pub record AreRolesOf (roles : List Role) (lines : Lines) : Type 0 where
+  pub within : lines.above ≤ length roles
+  pub are : AreRoles (drop lines.above roles) (pieces_left lines)
