@@ -2,10 +2,11 @@
 """Compares `receive` with `take`: compare_receive.py OURS [COUNT] [SEED] [FOLDER]
 
 Each of COUNT (20) seeded desks is brought ten texts, valid and broken ones, repeated ones and some with a reference twice, in 50
-orders. `take` tries them one by one, each from a file of its own, and goes on after a refusal. `receive` reads them from one to three
-mailbox files, in envelopes. Both have to say the same of each text, to keep the same desk file, byte for byte, and `receive` has to
-keep the refused texts. In an order in which nothing is refused but what each order refuses, the desk file has to be that of the other
-such orders. The differences are printed; the exit status says whether there are any.
+orders. `receive` reads them from one to three mailbox files, in envelopes; what follows an empty line in a free text is a text of its
+own there. `take` tries the same texts one by one, each from a file of its own, and goes on after a refusal. Both have to say the same of
+each text, to keep the same desk file, byte for byte, and `receive` has to keep the refused texts. In an order in which nothing is refused
+but what each order refuses, the desk file has to be that of the other such orders. The differences are printed; the exit status says
+whether there are any.
 """
 import collections
 import os
@@ -47,6 +48,23 @@ def lines_of(text):
     return lines
 
 
+def parts_of(text):
+    """The texts that `receive` makes of a text, each with its place among the lines: an empty line in a free text ends a text."""
+    lines, parts, begin, free, above = lines_of(text), [], 0, False, b""
+    for place, line in enumerate(lines):
+        if line:
+            begin = place if above is None else begin
+            free = free or (above == b"//" and line.startswith(b"SI"))
+            above = line
+        elif free:
+            parts.append((begin, lines[begin:place]))
+            free, above = False, None
+    parts.append((begin, lines[begin:]))
+    if len(parts) == 1:
+        return [(0, text)]
+    return [(begin, b"".join(line + b"\n" for line in part)) for begin, part in parts]
+
+
 def has_origin(lines):
     """Whether a text begins with an origin line: only above one address lines are part of no text."""
     below = [line for line in lines[1:] if line]
@@ -54,13 +72,13 @@ def has_origin(lines):
 
 
 def mailbox(rng, texts):
-    """A mailbox file with these texts, and the line on which each begins."""
+    """A mailbox file with these texts, and the line on which each of their parts begins."""
     found, begins = [], []
     for text in texts:
         lines = lines_of(text)
         envelope = rng.choice(ADDRESSES) if has_origin(lines) and rng.random() < 0.8 else []
         found += [b""] * rng.choice([0, 1]) + [line.encode("ascii") for line in envelope]
-        begins.append(len(found) + 1)
+        begins += [len(found) + 1 + place for place, _ in parts_of(text)]
         found += lines + [b"NNNN"]
     return b"".join(line + b"\n" for line in found), begins
 
@@ -92,14 +110,15 @@ def divided(rng, texts):
 
 def compared(rng, run, texts):
     """What is wrong in one order, what became of the texts, and the desk file."""
-    answers = taken(run, texts)
+    tried = [part for text in texts for _, part in parts_of(text)]
+    answers = taken(run, tried)
     expected, names, place = [], [], 0
     for part in divided(rng, texts):
         names.append(f"mail{len(names) + 1}")
         data, begins = mailbox(rng, part)
         run.write(names[-1], data)
         expected += [f"{names[-1]}:{begin} {moved(answer, begin)}" for begin, answer in zip(begins, answers[place:])]
-        place += len(part)
+        place += len(begins)
     words = collections.Counter(answer.split()[0] for answer in answers)
     expected.append(f"taken {words['taken']} repeated {words['repeated']} refused {words['refused']}")
     run.write("received.desk", run.start)
@@ -110,7 +129,7 @@ def compared(rng, run, texts):
         found.append(f"{status} {err!r} {out.decode('latin-1')!r} and {expected}")
     if run.read("received.desk") != run.read("taken.desk"):
         found.append("the desk files differ")
-    back = b"".join(b"\n".join(lines_of(text) + [b"NNNN", b""]) for text, answer in zip(texts, answers) if answer.startswith("refused"))
+    back = b"".join(b"\n".join(lines_of(text) + [b"NNNN", b""]) for text, answer in zip(tried, answers) if answer.startswith("refused"))
     if run.read("back") != back:
         found.append("the refused texts differ")
     conflicts = any(answer.startswith("refused 60") for answer in answers)

@@ -253,7 +253,9 @@ class Devices:
         self.expect("a name in a script is no UTF-8", ["rehearse", "season", "stations", "script"], 1, b"",
                     b"refused 63 Script line 2\n", {"script": b"DESKS 1\nTAKE 1 \xff\n"})
         shown = {"a\nb": r"a\x0ab", "a\rb": r"a\x0db", "\x1b[31mred": r"\x1b[31mred", "a\tb\x7f": r"a\x09b\x7f", "a\\x0ab": r"a\x5cx0ab",
-                 "Zürich \u2603 b": "Zürich \u2603 b", "a b'\"": "a b'\""}
+                 "Zürich \u2603 b": "Zürich \u2603 b", "a b'\"": "a b'\"", "a\x80b\x9bc\x9f\xa0": "a\\xc2\\x80b\\xc2\\x9bc\\xc2\\x9f\xa0",
+                 "\u202a\u202etxt\u2029\u202f": "\\xe2\\x80\\xaa\\xe2\\x80\\xaetxt\u2029\u202f",
+                 "\u2065\u2066a\u2069\u206a": "\u2065\\xe2\\x81\\xa6a\\xe2\\x81\\xa9\u206a"}
         for name, printed in shown.items():
             self.expect("a name is printed on one line", ["check", name], 1, b"", file_fault(printed))
             self.expect("a name of an output is printed on one line", ["start", "season", "stations", "missing/" + name], 1, b"",

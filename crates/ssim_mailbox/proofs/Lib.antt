@@ -1,3 +1,5 @@
-pub mod Dividing
+pub mod Drafts
 pub mod Finding
+pub mod Reading
 pub mod Splitting
+pub mod WholeParts

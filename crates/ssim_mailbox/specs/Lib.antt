@@ -1,6 +1,7 @@
 pub mod Lines
 pub mod Addresses
 pub mod Roles
+pub mod FreeTexts
 pub mod Texts
 pub mod examples
 pub mod Mail

@@ -3,6 +3,7 @@ use Rattle.std.specs.Prelude.{ℕ, Bool, ◌==◌, List, [], ◌∷◌, ◌++◌
 use Rattle.std.specs.List.{filter_map, flat_map, onto_first}
 use Rattle.ssim_mailbox.specs.declared.role.Role.{Role}
 use Rattle.ssim_mailbox.specs.declared.role.Role.TheVariants.{First, Inside, Envelope, End}
+use Rattle.ssim_mailbox.specs.FreeTexts.{cut_parts}
 use Rattle.ssim_mailbox.specs.Lines.{MailLine, drop_while, drop_while_at_end, lines_in}
 use Rattle.ssim_mailbox.specs.Roles.{role_of}
 
@@ -44,6 +45,6 @@ text_from (line ∷ more) = Some (record { line = line.number; bytes = written (
 abbrev pub texts_of : List (List MailLine) → List MailText
 texts_of = filter_map (λ part. text_from (trimmed part))
 
--- the texts of a mailbox
+-- the texts of a mailbox; an empty line in a free text ends it, too
 abbrev pub texts_in : List ℕ → List MailText
-texts_in mailbox = texts_of (parts_of (lines_in mailbox))
+texts_in mailbox = texts_of (cut_parts (parts_of (lines_in mailbox)))

@@ -1,7 +1,7 @@
 //! Laws of mailboxes.
 ghost use Rattle.ssim_mailbox.specs.examples.Mailboxes.{WorkedMailboxes};
 
-/// Two mailboxes worked out by hand have the texts that the definitions name.
+/// Three mailboxes worked out by hand have the texts that the definitions name.
 pub fn worked_mailboxes()
     ensures { WorkedMailboxes }
 {}

@@ -1,11 +1,10 @@
 //! The lines of a mailbox.
-ghost use Rattle.std.specs.Prelude.{◌≡◌, ◌<◌, ◌==◌, ◌∷◌, IfOk, IfSome, length, option_map};
+ghost use Rattle.std.specs.Prelude.{◌≡◌, ◌<◌, ◌==◌, ◌^◌, [], ◌∷◌, ◌++◌, IfSome, length, option_map};
 ghost use Rattle.std.specs.List.{slice_split};
 ghost use Rattle.ssim_mailbox.specs.Lines.{begins_with_dot, drop_while, drop_while_at_end};
 ghost use Rattle.ssim_mailbox.specs.Lines.{is_control, is_dropped_at_end, lines_in, shown};
-ghost use Rattle.ssim_mailbox.specs.internal.Lines.{lines_of, split_rest};
-
-use std::alloc::{AllocError, Global};
+ghost use Rattle.ssim_mailbox.specs.internal.Lines.{IsNextLine, line_of, lines_left, pieces_left};
+ghost use Rattle.ssim_mailbox.specs.internal.Lines.{split_rest};
 
 /// A line of a mailbox.
 #[derive(Clone, Copy)]
@@ -57,7 +56,7 @@ fn drop_end(line: &[u8]) -> &[u8]
 }
 
 /// A line as it is read.
-fn shown(line: &[u8]) -> &[u8]
+pub(crate) fn shown(line: &[u8]) -> &[u8]
     ensures { result.now ≡ shown line.now }
 {
     drop_end(drop_controls(line))
@@ -83,31 +82,63 @@ pub(crate) fn split_once(bytes: &[u8], mark: u8) -> (&[u8], Option<&[u8]>)
     (bytes, None)
 }
 
-/// The lines of a mailbox.
-pub(crate) fn lines<'a>(alloc: Global, mailbox: &'a [u8]) -> Result<Vec<Line<'a>>, AllocError>
-    ensures { IfOk result (λ v. lines_of v.items ≡ lines_in mailbox.now) }
+/// The bytes before the last `mark`, if there is one, and those after it.
+pub(crate) fn rsplit_once(bytes: &[u8], mark: u8) -> (Option<&[u8]>, &[u8])
+    ensures parts { slice_split (λ b. b == mark) bytes.now
+        ≡ split_rest mark (option_map (λ r. r.now) result.0) ++ result.1.now ∷ [] }
+    ensures shorter { IfSome result.0 (λ r. length r.now < length bytes.now) }
 {
-    let mut lines = Vec::new(alloc);
-    let mut rest = mailbox;
-    let mut number = 1;
-    let mut under_dot = false;
-    loop {
-        let (line, tail) = split_once(rest, b'\n');
-        let bytes = shown(line);
-        lines.push(Line {
-            number,
-            bytes,
-            under_dot,
-        })?;
-        if !bytes.is_empty() {
-            under_dot = begins_with_dot(bytes);
+    let mut rest = bytes;
+    while let [before @ .., last] = rest {
+        if *last == mark {
+            return (Some(before), &bytes[rest.len()..]);
         }
-        match tail {
-            Some(next) => {
-                rest = next;
-                number += 1;
-            }
-            None => return Ok(lines),
+        rest = before;
+    }
+    (None, bytes)
+}
+
+/// The lines of a mailbox from one on.
+#[derive(Clone, Copy)]
+pub(crate) struct Lines<'a> {
+    /// The bytes from the line on, if there is one.
+    rest: Option<&'a [u8]>,
+    /// How many lines are above it.
+    pub above: usize,
+    /// Whether the last line above it that is not empty begins with a dot.
+    under_dot: bool,
+}
+
+impl<'a> Lines<'a> {
+    /// The lines of a mailbox.
+    pub(crate) fn new(mailbox: &'a [u8]) -> Lines<'a>
+        ensures lines { lines_left result ≡ lines_in mailbox.now }
+        ensures pieces { pieces_left result ≡ slice_split (λ b. b == 10) mailbox.now }
+        ensures above { result.above ≡ 0 }
+    {
+        Lines {
+            rest: Some(mailbox),
+            above: 0,
+            under_dot: false,
         }
+    }
+
+    /// The next line.
+    pub(crate) fn next(&mut self) -> Option<Line<'a>>
+        requires { self.old.above < 2 ^ 63 }
+        ensures { IsNextLine (option_map line_of result) self.old self.new }
+    {
+        let (line, rest) = split_once(self.rest?, b'\n');
+        let line = Line {
+            number: self.above + 1,
+            bytes: shown(line),
+            under_dot: self.under_dot,
+        };
+        self.rest = rest;
+        self.above += 1;
+        if !line.bytes.is_empty() {
+            self.under_dot = begins_with_dot(line.bytes);
+        }
+        Some(line)
     }
 }

@@ -1,12 +1,13 @@
 //! What each line of a mailbox is.
-ghost use Rattle.std.specs.Prelude.{◌≡◌, ◌∷◌, List, IfOk};
+ghost use Rattle.std.specs.Prelude.{◌≡◌, ◌==◌, ◌∷◌, ℕ, List, IfOk, false};
+ghost use Rattle.std.specs.List.{slice_split};
 ghost use Rattle.ssim_mailbox.specs.Roles.{is_end, is_kind, is_start, role_of};
-ghost use Rattle.ssim_mailbox.specs.Lines.{MailLine};
-ghost use Rattle.ssim_mailbox.specs.internal.Lines.{line_of, lines_of};
-ghost use Rattle.ssim_mailbox.specs.internal.Roles.{IsAhead, roles_of};
+ghost use Rattle.ssim_mailbox.specs.Lines.{MailLine, shown};
+ghost use Rattle.ssim_mailbox.specs.internal.Lines.{line_of};
+ghost use Rattle.ssim_mailbox.specs.internal.Roles.{AreRoles, IsAhead, plain_line};
 
 use crate::address::is_address_line;
-use crate::line::{Line, begins_with_dot};
+use crate::line::{Line, begins_with_dot, rsplit_once, shown};
 use std::alloc::{AllocError, Global};
 
 /// What a line is to the texts.
@@ -53,55 +54,65 @@ fn is_start(line: &[u8]) -> bool
     matches!(line, [b'Z', b'C', b'Z', b'C', ..])
 }
 
-/// What is ahead from a line on.
-fn ahead_from(line: &Line, below: Ahead) -> Ahead
-    ensures { (lines : List MailLine) → IsAhead below lines
-        → IsAhead result (line_of line.now ∷ lines) }
+/// What is ahead from a line of these bytes on.
+fn ahead_from(bytes: &[u8], below: Ahead) -> Ahead
+    ensures { (line : MailLine) (lines : List MailLine) → line.bytes ≡ bytes.now
+        → IsAhead below lines → IsAhead result (line ∷ lines) }
 {
-    let is_message = is_kind(line.bytes);
+    let is_message = is_kind(bytes);
     Ahead {
         is_message,
-        leads_to_message: if line.bytes.is_empty() {
+        leads_to_message: if bytes.is_empty() {
             below.leads_to_message
         } else {
             is_message
         },
-        is_origin: begins_with_dot(line.bytes) && below.leads_to_message,
-        is_addressing: is_address_line(line.bytes) && (below.is_origin || below.is_addressing),
+        is_origin: begins_with_dot(bytes) && below.leads_to_message,
+        is_addressing: is_address_line(bytes) && (below.is_origin || below.is_addressing),
     }
 }
 
-/// The role of a line, by what is ahead from this line on, and below it.
-fn role_of(line: &Line, ahead: Ahead, below: Ahead) -> Role
-    ensures { (lines : List MailLine) → IsAhead ahead (line_of line.now ∷ lines)
-        → IsAhead below lines → result ≡ role_of (line_of line.now) lines }
+/// The role of a line of these bytes that is not under a dot, by what is ahead from this line on,
+/// and below it.
+fn role_of(bytes: &[u8], ahead: Ahead, below: Ahead) -> Role
+    ensures { (line : MailLine) (lines : List MailLine) → line.bytes ≡ bytes.now
+        → line.under_dot ≡ false → IsAhead ahead (line ∷ lines) → IsAhead below lines
+        → result ≡ role_of line lines }
 {
-    if is_end(line.bytes) {
+    if is_end(bytes) {
         return Role::End;
     }
-    if ahead.is_message {
-        return if line.under_dot {
-            Role::Inside
-        } else {
-            Role::First
-        };
-    }
-    if ahead.is_origin {
+    if ahead.is_message || ahead.is_origin {
         return Role::First;
     }
     if ahead.is_addressing {
         return Role::Envelope;
     }
     let is_above_text = below.is_message || below.is_origin || below.is_addressing;
-    if is_above_text && is_start(line.bytes) {
+    if is_above_text && is_start(bytes) {
         return Role::Envelope;
     }
     Role::Inside
 }
 
-/// The roles of lines, in order. They are found from the last line to the first.
-pub(crate) fn roles(alloc: Global, lines: &[Line]) -> Result<Vec<Role>, AllocError>
-    ensures { IfOk result (λ v. v.items ≡ roles_of (lines_of lines.now)) }
+impl Role {
+    /// The role of a line that has this role if it is not under a dot.
+    pub(crate) fn of(self, line: &Line) -> Role
+        ensures { (n : ℕ) (piece : List ℕ) (below : List MailLine) → shown piece ≡ line.now.bytes.now
+            → self ≡ role_of (plain_line n piece) below → result ≡ role_of (line_of line.now) below }
+    {
+        if line.under_dot && is_kind(line.bytes) {
+            Role::Inside
+        } else {
+            self
+        }
+    }
+}
+
+/// The roles of the lines of a mailbox, in order, as if none were under a dot. They are found from
+/// the last line to the first.
+pub(crate) fn roles(alloc: Global, mailbox: &[u8]) -> Result<Vec<Role>, AllocError>
+    ensures { IfOk result (λ v. AreRoles v.items (slice_split (λ b. b == 10) mailbox.now)) }
 {
     let mut roles = Vec::new(alloc);
     let mut below = Ahead {
@@ -110,12 +121,17 @@ pub(crate) fn roles(alloc: Global, lines: &[Line]) -> Result<Vec<Role>, AllocErr
         is_origin: false,
         is_addressing: false,
     };
-    let mut rest = lines;
-    while let [above @ .., line] = rest {
-        let ahead = ahead_from(line, below);
-        roles.push(role_of(line, ahead, below))?;
+    let mut rest = mailbox;
+    loop {
+        let (above, line) = rsplit_once(rest, b'\n');
+        let bytes = shown(line);
+        let ahead = ahead_from(bytes, below);
+        roles.push(role_of(bytes, ahead, below))?;
         below = ahead;
-        rest = above;
+        match above {
+            Some(next) => rest = next,
+            None => break,
+        }
     }
     roles.reverse();
     Ok(roles)

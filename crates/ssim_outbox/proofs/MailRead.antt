@@ -249,6 +249,15 @@ kept_lines n d p (q ∷ ps) h =
     one_before is_empty (mail_line n d (part_text p)) _
     (kept_lines (n + 1) (dot_after d (part_text p)) q ps h.1)
 
+-- no line of these parts is empty
+pub none_empty : (n : ℕ) (d : Bool) (ps : List Part) → AllByRecursion (λ q. IsLine (part_text q)) ps
+    → AllByRecursion (λ line. is_empty line ≡ false) (marked n d ps)
+none_empty n d [] h = tt
+none_empty n d (p ∷ ps) h = (
+  not_empty n d (part_text p) h.0.some,
+  none_empty (n + 1) (dot_after d (part_text p)) ps h.1,
+)
+
 same_bytes : (n : ℕ) (d : Bool) (ps : List Part) → mailbox.written (marked n d ps) ≡ written ps
 same_bytes n d [] = refl
 same_bytes n d (p ∷ ps) =

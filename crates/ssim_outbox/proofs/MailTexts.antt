@@ -26,11 +26,13 @@ use Rattle.ssim_text.proofs.BoundsLemmas.{spelled_reference_bounded}
 use Rattle.ssim_text.proofs.LinesKept.{ReadsAgain}
 use Rattle.ssim_text.proofs.ReadsBack.{all_both, all_right, spelled_again}
 use Rattle.ssim_mailbox.specs.Lines.{MailLine, lines_from}
-use Rattle.ssim_mailbox.specs.Texts.{MailText, parts_of, text_from, texts_of, trimmed}
+use Rattle.ssim_mailbox.specs.FreeTexts.{cut_parts}
+use Rattle.ssim_mailbox.specs.Texts.{MailText, is_empty, parts_of, text_from, texts_of, trimmed}
+use Rattle.ssim_mailbox.proofs.WholeParts.{whole_first}
 use Rattle.ssim_outbox.specs.MailFile.{IsMail, MailboxesRead, SentAreMail, is_plain, mail_file, mail_texts}
 use Rattle.ssim_outbox.specs.internal.Texts.{heading_parts}
 use Rattle.ssim_outbox.proofs.MailRead.{IsPlainPart, kind_parts, lines_left, marked, marked_text}
-use Rattle.ssim_outbox.proofs.MailRead.{origin_parts, parts_below}
+use Rattle.ssim_outbox.proofs.MailRead.{none_empty, origin_parts, parts_below}
 use Rattle.ssim_outbox.proofs.PlainLines.{IsLaterPart, part_plain}
 use Rattle.ssim_outbox.proofs.Together.{choice, heading_again, own_lines}
 
@@ -160,26 +162,30 @@ message_parts m n rest mail =
 
 -- ---- the texts
 
--- the first text, and those of the parts below it
+-- the first text, whose part has no empty line, and those of the parts below it
 first_text : (lines : List MailLine) (parts : List (List MailLine)) (text : MailText)
-    (texts : List MailText) → text_from (trimmed lines) ≡ Some text → texts_of parts ≡ texts
-    → texts_of ([] ∷ lines ∷ parts) ≡ text ∷ texts
-first_text lines parts text texts h k = rw (h, k) refl
+    (texts : List MailText) → AllByRecursion (λ line. is_empty line ≡ false) lines
+    → text_from (trimmed lines) ≡ Some text → texts_of (cut_parts parts) ≡ texts
+    → texts_of (cut_parts ([] ∷ lines ∷ parts)) ≡ text ∷ texts
+first_text lines parts text texts some h k =
+    let whole = whole_first lines parts some in
+    ap (λ (x : List (List MailLine)). texts_of ([] ∷ x)) whole ∙ rw (h, k) refl
 
 read_from : (n : ℕ) (messages : List MessageValue) → AllByRecursion IsMail messages
-    → texts_of (parts_of (lines_from n false (pieces (mail_file messages)))) ≡ mail_texts n messages
+    → texts_of (cut_parts (parts_of (lines_from n false (pieces (mail_file messages)))))
+    ≡ mail_texts n messages
 read_from n [] h = refl
 read_from n (m ∷ messages) h =
     let rest = mail_file messages in
     let parts = canonical_parts m in
     let some = some_at (bytes_eq m.originator no_originator) m.originator (KindPart m.kind) (after_kind m) in
     let lines = own_lines parts (parts_again m h.0) in
-    ap (λ (x : List ℕ). texts_of (parts_of (lines_from n false (pieces x))))
+    ap (λ (x : List ℕ). texts_of (cut_parts (parts_of (lines_from n false (pieces x)))))
     (append_assoc (canonical m) (codes "NNNN\n") rest)
-    ∙ ap texts_of (message_parts m n rest h.0)
+    ∙ ap (λ (x : List (List MailLine)). texts_of (cut_parts x)) (message_parts m n rest h.0)
     ∙ first_text (marked n false parts) (parts_below n parts rest)
     (record { line = n; bytes = canonical m }) (mail_texts (n + length parts + 1) messages)
-    (marked_text n false parts some lines)
+    (none_empty n false parts lines) (marked_text n false parts some lines)
     (read_from (n + length parts + 1) messages h.1)
 
 pub mailboxes_read : MailboxesRead

@@ -1,8 +1,7 @@
 -- Texts and files that are received one after another: what is left goes on from what was received.
-use Rattle.std.proofs.Common.{◌≡◌, ◌∙◌, inl, inr, ℕ, List, [], ◌∷◌, ◌++◌, map, Option, Result, Ok, Err, refl, sym, ap, subst, append_assoc, append-nil, length, arith}
+use Rattle.std.proofs.Common.{◌≡◌, ◌∙◌, List, [], ◌∷◌, ◌++◌, Option, refl, sym, ap, subst, append_assoc, append-nil}
 use Rattle.std.proofs.lemmas.List.{map-append}
-use Rattle.ssim_mailbox.specs.Mail.{mail_of}
-use Rattle.ssim_mailbox.specs.declared.text.Text as mailbox
+use Rattle.ssim_mailbox.specs.Texts.{MailText}
 use Rattle.ssim_held.specs.Entries.{DeskSeen}
 use Rattle.ssim_command_line.specs.Line.{Text}
 use Rattle.ssim_program.specs.Files.{Files}
@@ -37,20 +36,16 @@ pub ends : (whole rest : Receiving) (before now : DeskSeen) (old new : List code
 ends whole rest before now old new none (some, are, through) =
     (some, subst (λ (rs : List Receipt). whole before rs now) (append-nil some) (through [] now none), are)
 
-pub nothing_left : {X : Type 0} (xs : List X) → 0 ≡ length xs → xs ≡ []
-nothing_left [] e = refl
-nothing_left (x ∷ xs) e = absurd (omega (arith, e))
-
 -- one more receipt
 pub pushed : (old new : List code.Receipt) (one : code.Receipt) → new ≡ old ++ one ∷ [] → receipts_of new ≡ receipts_of old ++ receipt_of one ∷ []
 pushed old new one is = ap receipts_of is ∙ map-append receipt_of old (one ∷ [])
 
 -- ---- texts
 
-pub next_text : (file : Text) (left rest : List mailbox.Text) (text : mailbox.Text) (now now' : DeskSeen) (receipt : Receipt) → left ≡ text ∷ rest → Tries file now (mail_of text) receipt now'
-    → (later : List Receipt) (after : DeskSeen) → TriesEach file now' (map mail_of rest) later after → TriesEach file now (map mail_of left) ((receipt ∷ []) ++ later) after
+pub next_text : (file : Text) (left rest : List MailText) (text : MailText) (now now' : DeskSeen) (receipt : Receipt) → left ≡ text ∷ rest → Tries file now text receipt now'
+    → (later : List Receipt) (after : DeskSeen) → TriesEach file now' rest later after → TriesEach file now left ((receipt ∷ []) ++ later) after
 next_text file left rest text now now' receipt is tries later after others =
-    subst (λ (ts : List mailbox.Text). TriesEach file now (map mail_of ts) (receipt ∷ later) after) (sym is) (receipt, later, now', tries, others, refl)
+    subst (λ (ts : List MailText). TriesEach file now ts (receipt ∷ later) after) (sym is) (receipt, later, now', tries, others, refl)
 
 -- ---- files
 

@@ -2,3 +2,4 @@
 pub mod Scripts
 pub mod Histories
 pub mod Turns
+pub mod Names

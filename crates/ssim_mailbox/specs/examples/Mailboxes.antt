@@ -1,4 +1,4 @@
--- A mailbox of two texts, and one with lines beside its texts.
+-- A mailbox of two texts, one with lines beside its texts, and one with free texts.
 use Rattle.std.specs.Prelude.{◌≡◌, ℕ, List, [], ◌∷◌, ◌++◌, codes}
 use Rattle.std.specs.List.{flat_map}
 use Rattle.ssim_mailbox.specs.Texts.{texts_in}
@@ -46,6 +46,30 @@ four_are_found = texts_in mixed_lines ≡
     ∷ record { line = 10; bytes = bytes_of (codes "ASM" ∷ codes "LT" ∷ codes "HAMOPZ7" ∷ []) }
     ∷ record { line = 14; bytes = bytes_of (codes "SSM" ∷ []) } ∷ []
 
--- both mailboxes have these texts
+-- Two texts with free text. An empty line between `//` and SI changes nothing, and one after SI ends
+-- the text: the signature of the mail, with lines of its own between empty ones, is a text of its
+-- own. The second free text has no empty line, so that NNNN ends it. The line after NNNN begins with
+-- SI, but there is no `//` above it in a text of its own.
+abbrev pub free_texts : List ℕ
+free_texts = bytes_of (codes "SSM" ∷ [] ∷ codes "CNL" ∷ codes "//" ∷ [] ∷ codes "SI CHARTER"
+    ∷ codes "SEE MEMO" ∷ codes " " ∷ codes "BEST REGARDS" ∷ [] ∷ codes "FDHOPZ7" ∷ [] ∷ codes "ASM"
+    ∷ codes "//" ∷ codes "SI A" ∷ codes "//" ∷ codes "NNNN" ∷ codes "SI B" ∷ [] ∷ codes "C" ∷ [])
+
+-- its texts begin on the lines 1, 9, 13 and 18
+abbrev pub free_texts_end : Type 0
+free_texts_end = texts_in free_texts ≡
+    record {
+      line = 1;
+      bytes = bytes_of (codes "SSM" ∷ [] ∷ codes "CNL" ∷ codes "//" ∷ [] ∷ codes "SI CHARTER"
+          ∷ codes "SEE MEMO" ∷ []);
+    }
+    ∷ record { line = 9; bytes = bytes_of (codes "BEST REGARDS" ∷ [] ∷ codes "FDHOPZ7" ∷ []) }
+    ∷ record {
+      line = 13;
+      bytes = bytes_of (codes "ASM" ∷ codes "//" ∷ codes "SI A" ∷ codes "//" ∷ []);
+    }
+    ∷ record { line = 18; bytes = bytes_of (codes "SI B" ∷ [] ∷ codes "C" ∷ []) } ∷ []
+
+-- these mailboxes have these texts
 abbrev pub WorkedMailboxes : Type 0
-WorkedMailboxes = two_are_found × four_are_found
+WorkedMailboxes = two_are_found × four_are_found × free_texts_end

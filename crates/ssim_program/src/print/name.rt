@@ -1,7 +1,9 @@
 //! Names of files, as they are printed.
 
 ghost use Rattle.std.specs.Prelude.{◌≡◌, ◌<◌, ◌++◌, IfOk, OnOk, string_bytes};
-ghost use Rattle.ssim_program.specs.print.Names.{digit_16, printed_byte, printed_name};
+ghost use Rattle.std.specs.List.{flat_map};
+ghost use Rattle.ssim_program.specs.print.Names.{digit_16, escaped_byte, is_direction, is_escaped};
+ghost use Rattle.ssim_program.specs.print.Names.{printed_char, printed_name};
 
 use ssim_values::Memory;
 use std::alloc::Global;
@@ -9,44 +11,70 @@ use std::alloc::Global;
 /// A digit of base 16.
 fn digit_16(value: u8) -> u8
     requires { value < 16 }
-    ensures { result ≡ digit_16 value }
+    ensures value { result ≡ digit_16 value }
+    ensures ascii { result < 128 }
 {
     if value < 10 { 48 + value } else { 87 + value }
 }
 
-/// Adds a byte of a name.
-fn push_byte(printed: &mut Vec<u8>, byte: u8) -> Result<(), Memory>
-    ensures { OnOk result (printed.new.items ≡ printed.old.items ++ printed_byte byte) }
+/// Adds an escaped byte.
+fn push_byte(printed: &mut String, byte: u8) -> Result<(), Memory>
+    ensures { OnOk result
+        (string_bytes printed.new ≡ string_bytes printed.old ++ escaped_byte byte) }
 {
-    if byte < 32 || byte == b'\\' || byte == 127 {
-        printed.push(b'\\')?;
-        printed.push(b'x')?;
-        printed.push(digit_16(byte / 16))?;
-        printed.push(digit_16(byte % 16))?;
-    } else {
-        printed.push(byte)?;
+    printed.push_str("\\x")?;
+    printed.push(char::from(digit_16(byte / 16)))?;
+    printed.push(char::from(digit_16(byte % 16)))?;
+    Ok(())
+}
+
+/// Adds escaped bytes.
+fn push_escaped(printed: &mut String, bytes: &[u8]) -> Result<(), Memory>
+    ensures { OnOk result
+        (string_bytes printed.new ≡ string_bytes printed.old ++ flat_map escaped_byte bytes.now) }
+{
+    for byte in bytes {
+        push_byte(printed, *byte)?;
     }
     Ok(())
 }
 
-/// The bytes of a name, as they are printed.
-fn printed_bytes(alloc: Global, name: &str) -> Result<Vec<u8>, Memory>
-    ensures { IfOk result (λ printed. printed.items ≡ printed_name name.now) }
+/// Whether a character changes the direction of the characters after it.
+fn is_direction(c: char) -> bool
+    ensures { result ≡ is_direction c }
 {
-    let mut printed = Vec::with_capacity(alloc, name.len())?;
-    for byte in name.as_bytes() {
-        push_byte(&mut printed, *byte)?;
+    let code = c as u32;
+    (0x202A <= code && code <= 0x202E) || (0x2066 <= code && code <= 0x2069)
+}
+
+/// Whether a character of a name is escaped.
+fn is_escaped(c: char) -> bool
+    ensures { result ≡ is_escaped c }
+{
+    c.is_control() || c == '\\' || is_direction(c)
+}
+
+/// Adds a character of a name.
+fn push_char(printed: &mut String, c: char) -> Result<(), Memory>
+    ensures { OnOk result
+        (string_bytes printed.new ≡ string_bytes printed.old ++ printed_char c) }
+{
+    if is_escaped(c) {
+        let mut buffer = [0; 4];
+        push_escaped(printed, c.encode_utf8(&mut buffer).as_bytes())
+    } else {
+        printed.push(c)?;
+        Ok(())
     }
-    Ok(printed)
 }
 
 /// A name as it is printed, on one line and with nothing that a terminal acts on.
 pub(crate) fn printed_name(alloc: Global, name: &str) -> Result<String, Memory>
     ensures { IfOk result (λ printed. string_bytes printed ≡ printed_name name.now) }
 {
-    match String::from_utf8(printed_bytes(alloc, name)?) {
-        Ok(printed) => Ok(printed),
-        // Only bytes of one character each are replaced, so this does not come.
-        Err(_) => Err(Memory),
+    let mut printed = String::new(alloc);
+    for c in name.chars() {
+        push_char(&mut printed, c)?;
     }
+    Ok(printed)
 }

@@ -1,17 +1,14 @@
 -- The roles so far are those of the lines after the rest, and `below` is what these begin with.
-use Rattle.std.proofs.Common.{◌≡◌, ◌≤◌, length, drop, take}
-use Rattle.std.specs.Prelude.{reverse}
-use Rattle.ssim_mailbox.specs.internal.Lines.{lines_of}
-use Rattle.ssim_mailbox.specs.internal.Roles.{IsAhead, roles_of}
+use Rattle.std.proofs.Common.{◌≡◌, ◌++◌, List, ℕ, length}
+use Rattle.std.specs.Prelude.{◌==◌, reverse}
+use Rattle.std.specs.List.{slice_split}
+use Rattle.ssim_mailbox.specs.internal.Roles.{ArePiecesAhead, AreRoles}
 use Rattle.ssim_mailbox.proofs.role.roles.Given as goal
 
-abbrev pub invariant-loop-rest : goal.invariant-loop-rest
-invariant-loop-rest l = record {
-  shorter : length l.rest ≤ length l.lines;
-  rest : l.rest ≡ take (length l.rest) l.lines;
-  roles : reverse l.roles.items ≡ roles_of (lines_of (drop (length l.rest) l.lines));
-  below : IsAhead l.below (lines_of (drop (length l.rest) l.lines));
-}
+abbrev pub invariant-loop-roles : goal.invariant-loop-roles
+invariant-loop-roles l =
+    (done : List (List ℕ)) × (slice_split (λ b. b == 10) l.mailbox ≡ slice_split (λ b. b == 10) l.rest ++ done)
+    × AreRoles (reverse l.roles.items) done × ArePiecesAhead l.below done
 
-abbrev pub decreases-loop-rest : goal.decreases-loop-rest
-decreases-loop-rest l = length l.rest
+abbrev pub decreases-loop-roles : goal.decreases-loop-roles
+decreases-loop-roles l = length l.rest

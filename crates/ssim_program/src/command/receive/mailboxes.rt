@@ -1,6 +1,6 @@
 //! Mailbox files, whose texts are tried at a desk one after another.
 
-ghost use Rattle.std.specs.Prelude.{◌≡◌, ◌++◌, ℕ, List, IfNone, IfOk, IfSome, OnOk, map};
+ghost use Rattle.std.specs.Prelude.{◌≡◌, IfNone, IfOk, IfSome, OnOk, map};
 ghost use Rattle.ssim_mailbox.specs.Mail.{mail_of};
 ghost use Rattle.ssim_mailbox.specs.Texts.{texts_in};
 ghost use Rattle.ssim_program.specs.Made.{HasFile, IsMissing};
@@ -11,27 +11,25 @@ use crate::command::receive::receipt::Receipt;
 use crate::data_set::LIMIT;
 use crate::store::{Store, StoreFault};
 use ssim_desk::Holdings;
-use ssim_mailbox::{Text, texts};
+use ssim_mailbox::{Text, Texts};
 use ssim_values::Memory;
 use std::alloc::Global;
 
-/// The texts of the mailbox in the file of this name; none if there is no such file within the
-/// limit.
+/// The mailbox in the file of this name; none if there is no such file within the limit.
 fn load_mailbox<S: Store>(
     alloc: Global,
     name: &str,
     store: &mut S,
-) -> Result<Option<Vec<Text>>, Memory>
-    ensures texts { IfOk result (λ loaded. IfSome loaded
-        (λ v. (bytes : List ℕ) × HasFile (S.files store.old) name.now bytes
-        × (map mail_of v.items ≡ texts_in bytes))) }
+) -> Result<Option<Vec<u8>>, Memory>
+    ensures bytes { IfOk result
+        (λ loaded. IfSome loaded (λ v. HasFile (S.files store.old) name.now v.items)) }
     ensures missing { IfOk result
         (λ loaded. IfNone loaded (IsMissing (S.files store.old) name.now)) }
     ensures same { S.files store.new ≡ S.files store.old }
     ensures counted { S.failures store.new ≡ S.failures store.old }
 {
     match store.load(alloc, name, LIMIT) {
-        Ok(bytes) => Ok(Some(texts(alloc, &bytes)?)),
+        Ok(bytes) => Ok(Some(bytes)),
         Err(StoreFault::Memory) => Err(Memory),
         Err(StoreFault::Fault) => Ok(None),
     }
@@ -52,18 +50,20 @@ fn try_text<'n>(desk: &mut Holdings, file: &'n str, text: Text) -> Receipt<'n>
     }
 }
 
-/// Tries the texts of a file, in order.
+/// Tries the texts of the mailbox in a file, one after another.
 fn try_texts<'n>(
+    alloc: Global,
     desk: &mut Holdings,
     file: &'n str,
-    texts: Vec<Text>,
+    mailbox: &[u8],
     receipts: &mut Vec<Receipt<'n>>,
 ) -> Result<(), Memory>
     ensures { OnOk result (Adds (λ before some after. TriesEach file.now before
-        (map mail_of texts.items) some after)
+        (texts_in mailbox.now) some after)
         desk.old desk.new receipts.old.items receipts.new.items) }
 {
-    for text in texts {
+    let mut texts = Texts::new(alloc, mailbox)?;
+    while let Some(text) = texts.next_text(alloc)? {
         receipts.push(try_text(desk, file, text))?;
     }
     Ok(())
@@ -83,7 +83,7 @@ fn receive_file<'n, S: Store>(
     ensures counted { S.failures store.new ≡ S.failures store.old }
 {
     match load_mailbox(alloc, file, store)? {
-        Some(texts) => try_texts(desk, file, texts, receipts),
+        Some(mailbox) => try_texts(alloc, desk, file, &mailbox, receipts),
         None => {
             receipts.push(Receipt::Unread { file })?;
             Ok(())

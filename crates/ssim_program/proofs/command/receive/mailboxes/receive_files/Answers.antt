@@ -1,5 +1,5 @@
 -- The next file is received, of those that are left.
-use Rattle.std.proofs.Common.{◌≡◌, ◌∙◌, ◌+◌, ◌∷◌, Bor, List, ℕ, [], drop, map, refl, sym, ap, subst}
+use Rattle.std.proofs.Common.{◌≡◌, ◌∙◌, ◌+◌, Bor, List, ℕ, [], drop, map, refl, sym, ap, subst}
 use Rattle.std.proofs.lemmas.List.{drop_all, drop_more}
 use Rattle.ssim_program.specs.Receiving.{Receipt, ReceivesEach}
 use Rattle.ssim_program.proofs.Received.{ends, file_received}

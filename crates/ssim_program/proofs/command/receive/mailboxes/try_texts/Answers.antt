@@ -1,34 +1,30 @@
 -- The next text is tried, of those that are left.
-use Rattle.std.proofs.Common.{◌≡◌, ◌∙◌, ◌∷◌, [], List, length, map, ap, arith, refl, sym, subst}
-use Rattle.std.specs.Vec.Iter.{into_iter_items}
+use Rattle.std.proofs.Common.{◌≡◌, ◌∙◌, ◌∷◌, ◌++◌, [], List, Ok, Option, ap, option_map, refl, sym, subst}
+use Rattle.std.specs.Option.{option_to_list}
 use Rattle.ssim_mailbox.specs.Mail.{mail_of}
+use Rattle.ssim_mailbox.specs.Texts.{MailText, texts_in}
 use Rattle.ssim_mailbox.specs.declared.text.Text as mailbox
 use Rattle.ssim_program.specs.Receiving.{TriesEach}
 use Rattle.ssim_program.specs.internal.Receive.{receipt_of}
-use Rattle.ssim_program.proofs.Received.{ends, goes_on, next_text, nothing_left, pushed}
+use Rattle.ssim_program.proofs.Received.{ends, goes_on, next_text, pushed}
 use Rattle.ssim_program.proofs.command.receive.mailboxes.try_texts.Goals as goal
 
-pub loop-text-preserved : goal.loop-text-preserved
-loop-text-preserved c =
-    let at = c.loop-text in
+pub loop-texts-preserved : goal.loop-texts-preserved
+loop-texts-preserved c =
+    let at = c.loop-texts in
     let text = c.in-Some.text in
     let file = c.args.file.now in
-    let left = into_iter_items at.text-iterator in
-    let rest = into_iter_items c.next.new.self in
-    let steps : left ≡ text ∷ rest = c.in-Some.ensures.steps.0 in
+    let rest = c.next_text.new.self in
     let receipt = c.try_text.result in
-    record {
-      through = goes_on (λ before some after. TriesEach file before (map mail_of c.args.texts.items) some after) (λ before some after. TriesEach file before (map mail_of left) some after)
-          (λ before some after. TriesEach file before (map mail_of rest) some after) c.args.desk.now at.desk c.try_text.new.desk c.args.receipts.now.items at.receipts.items c.push.new.self.items (receipt_of receipt ∷ [])
-          (pushed at.receipts.items c.push.new.self.items receipt c.in_ok-push.ensures.items) (next_text file left rest text at.desk c.try_text.new.desk (receipt_of receipt) steps c.try_text.ensures) at.invariant.through;
-      left = let was = at.invariant.left in let gone = c.in-Some.ensures.steps.1 in let short = ap length steps in omega arith;
-    }
+    let steps : at.texts ≡ mail_of text ∷ rest = c.in_ok-text.ensures.next ∙ ap (λ (t : Option mailbox.Text). option_to_list (option_map mail_of t) ++ rest) c.in-Some.is in
+    goes_on (λ before some after. TriesEach file before (texts_in c.args.mailbox.now) some after) (λ before some after. TriesEach file before at.texts some after)
+    (λ before some after. TriesEach file before rest some after) c.args.desk.now at.desk c.try_text.new.desk c.args.receipts.now.items at.receipts.items c.push.new.self.items (receipt_of receipt ∷ [])
+    (pushed at.receipts.items c.push.new.self.items receipt c.in_ok-push.ensures.items) (next_text file at.texts rest (mail_of text) at.desk c.try_text.new.desk (receipt_of receipt) steps c.try_text.ensures) at.invariant
 
 pub returns : goal.returns
 returns c =
-    let at = c.loop-text in
+    let at = c.loop-texts in
     let file = c.args.file.now in
-    let left = into_iter_items at.text-iterator in
-    let none : left ≡ [] = nothing_left left (sym c.in-None.ensures.steps.0 ∙ at.invariant.left) in
-    ends (λ before some after. TriesEach file before (map mail_of c.args.texts.items) some after) (λ before some after. TriesEach file before (map mail_of left) some after) c.args.desk.now at.desk
-    c.args.receipts.now.items at.receipts.items (subst (λ (ts : List mailbox.Text). TriesEach file at.desk (map mail_of ts) [] at.desk) (sym none) (refl, refl)) at.invariant.through
+    let none : at.texts ≡ [] = c.next_text.ensures.none (c.in_ok-text.was ∙ ap Ok c.in_default.is) in
+    ends (λ before some after. TriesEach file before (texts_in c.args.mailbox.now) some after) (λ before some after. TriesEach file before at.texts some after) c.args.desk.now at.desk
+    c.args.receipts.now.items at.receipts.items (subst (λ (ts : List MailText). TriesEach file at.desk ts [] at.desk) (sym none) (refl, refl)) at.invariant
