@@ -26,6 +26,7 @@ mod fault;
 mod held;
 pub mod laws;
 mod lookup;
+mod pages;
 mod row_line;
 mod union;
 
@@ -34,5 +35,6 @@ pub use desk_file_writer::put_desk;
 pub use fault::DeskFault;
 pub use held::Held;
 pub use lookup::{LookUp, look, search};
+pub use pages::{Pages, Place};
 pub use ssim_base::WriteFault;
 pub use union::{first_conflict, first_new, merged};
