@@ -1,10 +1,10 @@
 -- A list of messages that is divided into pages: where a place is in the list, and what a change of one page makes of it.
 use Rattle.std.proofs.Common.{◌≡◌, ◌≢◌, ◌⊎◌, inl, inr, ℕ, zero, suc, ◌+◌, ◌-◌, ◌<◌, ◌≤◌, List, [], ◌∷◌, ◌++◌, length, take, drop, All, Option, None, Some, IfSome, MatchOption, Result, Ok, Err, OnOk, OnErr, set, slice_get, slice_index_or, refl, sym, ap, subst, ◌∙◌, append_assoc, arith, length-append}
 use Rattle.std.specs.Prelude.{T}
-use Rattle.std.specs.List.{insert}
+use Rattle.std.specs.List.{insert, remove}
 use Rattle.std.specs.declared.cmp.Ordering.{Ordering}
 use Rattle.std.specs.declared.cmp.Ordering.TheVariants.{Less, Equal, Greater}
-use Rattle.std.specs.FinMap.{is_sorted}
+use Rattle.std.specs.FinMap.{get, is_sorted}
 use Rattle.std.specs.FinMap.Entries.{below_all}
 use Rattle.std.proofs.lemmas.Bool.{cases_lt}
 use Rattle.std.proofs.lemmas.Grind.{common_steps}
@@ -12,10 +12,11 @@ use Rattle.std.proofs.lemmas.Option.{get_or_from_slice_get, slice_get_past, slic
 use Rattle.std.proofs.lemmas.List.Elements.{All-append, All-cons, All-drop, All-set, All-take}
 use Rattle.ssim_text.specs.declared.reference.Reference.{Reference}
 use Rattle.ssim_held.specs.Held.{reference_cmp}
-use Rattle.ssim_held.specs.Entries.{AreRising, Entry, keyed}
+use Rattle.ssim_held.specs.Entries.{AreRising, Entry, keyed, map_of}
 use Rattle.ssim_held.specs.Ordered.{Belongs}
-use Rattle.ssim_held.specs.Pages.{IsFilled, all_of, position_on}
-use Rattle.ssim_held.proofs.Entries.{T-from_true, and_left, and_right, both, flips, true-from_T}
+use Rattle.ssim_held.specs.Pages.{IsFilled, IsHeldOn, all_of, position, position_on}
+use Rattle.ssim_held.specs.declared.pages.Place.{Place}
+use Rattle.ssim_held.proofs.Entries.{T-from_true, and_left, and_right, both, flips, held_at, true-from_T}
 use Rattle.ssim_held.proofs.References.{reference_apart, reference_total}
 use Rattle.ssim_held.proofs.Searching.{at_index, index_of_get, narrow_down, no_more, rise}
 
@@ -304,3 +305,52 @@ module _ (ps xs : List (List Entry)) (k : ℕ) (p : List Entry) (n : ℕ) (is : 
 -- the page that was read is long
 pub is_long : (ps : List (List Entry)) (k : ℕ) (p q : List Entry) (n : ℕ) → slice_get ps k ≡ Some p → q ≡ slice_index_or ps k q → n ≡ length q → 512 ≤ n → 512 ≤ length p
 is_long ps k p q n is read len full = let same = ap length (read ∙ get_or_from_slice_get ps k p q is) in omega (arith, len, full, same)
+
+-- ---- what is held at a place
+
+-- the message at the place of a reference is held under it
+pub held_on : (ps : List (List Entry)) (r : Reference) (place : Place) → AreRising (all_of ps) → IsHeldOn ps r place → (e : Entry) → slice_get (all_of ps) (position ps place) ≡ Some e
+    → get (map_of (all_of ps)) r ≡ Some e.message
+held_on ps r place rising is e there =
+    let found = is.there in
+    let same : is.entry ≡ e = cc in
+    ap (get (map_of (all_of ps))) (sym is.its) ∙ held_at (all_of ps) (position ps place) is.entry rising is.there ∙ ap (λ (x : Entry). Some x.message) same
+
+-- ---- a message that is taken away
+
+remove_first : (xs ys : List Entry) (at : ℕ) → at < length xs → remove (xs ++ ys) at ≡ remove xs at ++ ys
+remove_first [] ys at lt = absurd (omega (arith, lt))
+remove_first (x ∷ xs) ys zero lt = refl
+remove_first (x ∷ xs) ys (suc at) lt = ap (λ (zs : List Entry). x ∷ zs) (remove_first xs ys at (omega (arith, lt)))
+
+remove_after : (xs ys : List Entry) (n at : ℕ) → n ≡ length xs + at → remove (xs ++ ys) n ≡ xs ++ remove ys at
+remove_after [] ys n at is = ap (remove ys) (omega (arith, is))
+remove_after (x ∷ xs) ys zero at is = absurd (omega (arith, is))
+remove_after (x ∷ xs) ys (suc n) at is = ap (λ (zs : List Entry). x ∷ zs) (remove_after xs ys n at (omega (arith, is)))
+
+-- a message that is taken away from its page
+pub taken_from : (ps : List (List Entry)) (k : ℕ) (p : List Entry) (at : ℕ) → slice_get ps k ≡ Some p → at < length p → all_of (set ps k (remove p at)) ≡ remove (all_of ps) (position_on ps k at)
+taken_from [] k p at is lt = cc
+taken_from (q ∷ ps) zero p at is lt =
+    let same : q ≡ p = cc in
+    sym (remove_first p (all_of ps) at lt) ∙ ap (λ (x : List Entry). remove (x ++ all_of ps) at) (sym same)
+taken_from (q ∷ ps) (suc k) p at is lt =
+    ap (λ (x : List Entry). q ++ x) (taken_from ps k p at is lt) ∙ sym (remove_after q (all_of ps) (length q + position_on ps k at) (position_on ps k at) refl)
+
+-- an empty page that is taken away
+pub without_empty : (ps : List (List Entry)) (k : ℕ) → k < length ps → all_of (remove (set ps k []) k) ≡ all_of (set ps k [])
+without_empty [] k lt = absurd (omega (arith, lt))
+without_empty (q ∷ ps) zero lt = refl
+without_empty (q ∷ ps) (suc k) lt = ap (λ (x : List Entry). q ++ x) (without_empty ps k (omega (arith, lt)))
+
+without_set : (ps : List (List Entry)) (k : ℕ) (p : List Entry) → remove (set ps k p) k ≡ remove ps k
+without_set [] k p = refl
+without_set (q ∷ ps) zero p = refl
+without_set (q ∷ ps) (suc k) p = ap (λ (x : List (List Entry)). q ∷ x) (without_set ps k p)
+
+pub filled_without : (ps : List (List Entry)) (k : ℕ) (p : List Entry) → All IsFilled ps → All IsFilled (remove (set ps k p) k)
+filled_without ps k p filled = subst (All IsFilled) (sym (without_set ps k p)) (All-append IsFilled (take k ps) (drop (suc k) ps) (All-take IsFilled k ps filled) (All-drop IsFilled (suc k) ps filled))
+
+pub none_left : (p : List Entry) → length p ≡ 0 → p ≡ []
+none_left [] none = refl
+none_left (e ∷ p) none = absurd (omega (arith, none))

@@ -2,7 +2,7 @@
 
 ghost use Rattle.std.specs.Prelude.{◌≡◌, ◌≢◌, ◌≤◌, ◌<◌, ◌+◌, ◌++◌, ◌∷◌, [], ℕ, Bool, List, All, length, take, drop};
 ghost use Rattle.std.specs.Prelude.{slice_get, slice_set, Some, IfOk, IfErr, IfSome, OnOk, OnErr, IsTrue, ◌↔◌};
-ghost use Rattle.std.specs.List.{insert};
+ghost use Rattle.std.specs.List.{insert, remove};
 ghost use Rattle.std.specs.declared.cmp.Ordering.TheVariants.{Greater};
 ghost use Rattle.ssim_held.specs.Held.{reference_cmp};
 ghost use Rattle.ssim_held.specs.Entries.{AreRising, Entry};
@@ -99,6 +99,14 @@ impl Page {
         Ok(())
     }
 
+    // Takes away the message at this position.
+    fn remove(&mut self, at: usize)
+        requires { at < length self.old }
+        ensures { self.new ≡ remove self.old at }
+    {
+        self.held.remove(at);
+    }
+
     // Takes away the messages from this position on.
     fn split_off(&mut self, at: usize) -> Result<Page, Memory>
         requires { at ≤ length self.old }
@@ -155,6 +163,14 @@ impl Pages {
         ensures err { OnErr result (all_of self.new ≡ all_of self.old) }
     {
         insert(self.alloc, &mut self.pages, place, new)
+    }
+
+    /// Takes away the message at a place. Allocates nothing.
+    pub fn remove(&mut self, place: Place)
+        requires { (page : List Entry) × (slice_get self.old place.page ≡ Some page) × (place.at < length page) }
+        ensures { all_of self.new ≡ remove (all_of self.old) (position self.old place) }
+    {
+        remove(&mut self.pages, place)
     }
 
     /// The messages in their order.
@@ -280,4 +296,18 @@ fn divide(pages: &mut Vec<Page>, number: usize) -> Result<(), Memory>
     let later = pages[number].split_off(FULL / 2)?;
     pages.insert(number + 1, later).unwrap();
     Ok(())
+}
+
+// Takes away the message at a place, and its page if it was the only one there.
+fn remove(pages: &mut Vec<Page>, place: Place)
+    requires on { (page : List Entry) × (slice_get pages.old.items place.page ≡ Some page)
+        × (place.at < length page) }
+    ensures all { all_of pages.new.items ≡ remove (all_of pages.old.items) (position pages.old.items place) }
+    ensures filled { All IsFilled pages.old.items → All IsFilled pages.new.items }
+{
+    let page = &mut pages[place.page];
+    page.remove(place.at);
+    if page.len() == 0 {
+        pages.remove(place.page);
+    }
 }

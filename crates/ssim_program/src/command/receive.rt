@@ -19,7 +19,7 @@ use crate::desk_file::{keep, keep_content, open_holdings};
 use crate::print::printer::{Printer, print_all};
 use crate::refusal::Refusal;
 use crate::store::Store;
-use ssim_desk::Holdings;
+use ssim_desk::{Holdings, Intake};
 use std::alloc::Global;
 use std::io::Write;
 
@@ -48,10 +48,11 @@ fn received_by<S: Store>(
     ensures same { S.files store.new ≡ S.files store.old }
     ensures counted { S.failures store.new ≡ S.failures store.old }
 {
-    let mut desk = open_holdings(alloc, file, store)?;
-    let receipts = receive_files(alloc, &mut desk, names, store)?;
+    let mut intake = Intake::of(open_holdings(alloc, file, store)?)?;
+    let receipts = receive_files(alloc, &mut intake, names, store)?;
     let lines = lines_of(alloc, &receipts)?;
     let refused = refused_texts(alloc, &receipts)?;
+    let desk = intake.finish()?;
     // No effect at run time. The proof reads from this use that the messages are in order.
     let _ = desk.held();
     Ok(Received {

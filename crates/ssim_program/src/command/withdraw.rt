@@ -11,7 +11,7 @@ use crate::desk_file::{keep, open_holdings};
 use crate::print::printed_line::{PrintedLine, add_line};
 use crate::refusal::Refusal;
 use crate::store::Store;
-use ssim_desk::Holdings;
+use ssim_desk::Intake;
 use ssim_text::Reference;
 use std::alloc::Global;
 
@@ -28,8 +28,9 @@ pub(crate) fn withdraw<S: Store>(
         (stored (S.files store.old) (S.failures store.old))
         (stored (S.files store.new) (S.failures store.new)) result }
 {
-    let mut desk = open_holdings(alloc, file, store)?;
-    let lines = withdraw_each(alloc, &mut desk, words)?;
+    let mut intake = Intake::of(open_holdings(alloc, file, store)?)?;
+    let lines = withdraw_each(alloc, &mut intake, words)?;
+    let desk = intake.finish()?;
     // No effect at run time. The proof reads from this use that the messages are in order.
     let _ = desk.held();
     keep(alloc, &desk, name, store)?;
@@ -37,7 +38,7 @@ pub(crate) fn withdraw<S: Store>(
 }
 
 /// Withdraws the message of each reference that the words spell. Returns their lines.
-fn withdraw_each(alloc: Global, desk: &mut Holdings, words: &[&str]) -> Result<Vec<u8>, Refusal>
+fn withdraw_each(alloc: Global, desk: &mut Intake, words: &[&str]) -> Result<Vec<u8>, Refusal>
     ensures done { IfOk result
         (λ lines. WithdrawsFrom (map (λ t. t.now) words.now) desk.old desk.new lines.items) }
     ensures why { IfErr result (RefusesReferences (map (λ t. t.now) words.now)) }
