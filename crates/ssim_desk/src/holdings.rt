@@ -31,9 +31,7 @@ use crate::flights::{act_between, days_after, found_by, legs_after, pieces_after
 use crate::message_effect::act_in_order;
 use crate::offer::{Offer, offer_over};
 use ssim_base::{Base, DataSet, Stations, WriteFault};
-use ssim_held::{
-    DeskFault, Held, Opened, first_conflict, first_new, merged, put_desk, read_desk,
-};
+use ssim_held::{DeskFault, Held, Opened, first_conflict, first_new, merged, put_desk, read_desk};
 use ssim_periods::Periods;
 use ssim_records::{Sink, Source};
 use ssim_schedule::{ExportFault, FlightPieces, Itinerary, PlacedLeg, Schedule};

@@ -5,6 +5,7 @@
 //!   schedule that the messages leave. [`Took`] and [`DeskFault`]: the results.
 //! - [`Holdings`]: the base and the messages of a desk without its timetable, for callers that ask
 //!   for none, or once for few flights or for the export.
+//! - [`Intake`]: the holdings while many messages come and go, in any order of reference.
 //! - [`Held`]: a message that a desk holds, with its reference and its canonical text.
 //! - [`FindingLine`]: what a sub-message found on the dates of its period.
 //! - [`DateHistory`]: what each sub-message did with a flight on one date, one [`DateStep`] each.

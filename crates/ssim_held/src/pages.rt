@@ -238,12 +238,7 @@ fn begins_after(page: &Page, reference: &Reference) -> bool
 }
 
 // Puts a message into a gap. If the page is full, it is divided first.
-fn insert(
-    alloc: Global,
-    pages: &mut Vec<Page>,
-    place: Place,
-    new: Held,
-) -> Result<(), Memory>
+fn insert(alloc: Global, pages: &mut Vec<Page>, place: Place, new: Held) -> Result<(), Memory>
     requires { IsGap pages.old.items place }
     ensures ok { OnOk result
         (all_of pages.new.items ≡ insert (all_of pages.old.items) (position pages.old.items place) new) }

@@ -15,11 +15,11 @@ ghost use Rattle.ssim_program.specs.declared.refusal.Refusal.TheVariants as refu
 
 use crate::command::receive::mailboxes::receive_files;
 use crate::command::receive::receipt::{lines_of, refused_texts};
-use crate::desk_file::{keep, keep_content, open_holdings};
+use crate::desk_file::{keep, keep_content, open_intake};
 use crate::print::printer::{Printer, print_all};
 use crate::refusal::Refusal;
 use crate::store::Store;
-use ssim_desk::{Holdings, Intake};
+use ssim_desk::Holdings;
 use std::alloc::Global;
 use std::io::Write;
 
@@ -48,11 +48,11 @@ fn received_by<S: Store>(
     ensures same { S.files store.new ≡ S.files store.old }
     ensures counted { S.failures store.new ≡ S.failures store.old }
 {
-    let mut intake = Intake::of(open_holdings(alloc, file, store)?)?;
-    let receipts = receive_files(alloc, &mut intake, names, store)?;
+    let mut desk = open_intake(alloc, file, store)?;
+    let receipts = receive_files(alloc, &mut desk, names, store)?;
     let lines = lines_of(alloc, &receipts)?;
     let refused = refused_texts(alloc, &receipts)?;
-    let desk = intake.finish()?;
+    let desk = desk.finish()?;
     // No effect at run time. The proof reads from this use that the messages are in order.
     let _ = desk.held();
     Ok(Received {

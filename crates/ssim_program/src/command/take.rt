@@ -10,7 +10,7 @@ ghost use Rattle.ssim_program.specs.World.{world};
 ghost use Rattle.ssim_program.specs.internal.Program.{Does};
 
 use crate::data_set::load_file;
-use crate::desk_file::{keep, open_holdings};
+use crate::desk_file::{keep, open_intake};
 use crate::print::printed_line::{PrintedLine, line_of};
 use crate::print::printer::{Printer, print_all};
 use crate::refusal::Refusal;
@@ -34,10 +34,10 @@ pub(crate) fn take<S: Store, W: Write>(
         (world (S.files store.old) (S.failures store.old) out.old)
         (world (S.files store.new) (S.failures store.new) out.new) result }
 {
-    let mut intake = Intake::of(open_holdings(alloc, file, store)?)?;
-    take_texts(alloc, &mut intake, names, store, out)?;
+    let mut desk = open_intake(alloc, file, store)?;
+    take_texts(alloc, &mut desk, names, store, out)?;
     out.flush()?;
-    let desk = intake.finish()?;
+    let desk = desk.finish()?;
     // No effect at run time. The proof reads from this use that the messages are in order.
     let _ = desk.held();
     keep(alloc, &desk, kept, store)

@@ -7,7 +7,7 @@ ghost use Rattle.ssim_command_line.specs.Line.{Withdraw};
 ghost use Rattle.ssim_program.specs.Withdrawing.{RefusesReferences, WithdrawsFrom, withdrawn_printed};
 ghost use Rattle.ssim_program.specs.internal.Program.{Prepares, stored};
 
-use crate::desk_file::{keep, open_holdings};
+use crate::desk_file::{keep, open_intake};
 use crate::print::printed_line::{PrintedLine, add_line};
 use crate::refusal::Refusal;
 use crate::store::Store;
@@ -28,9 +28,9 @@ pub(crate) fn withdraw<S: Store>(
         (stored (S.files store.old) (S.failures store.old))
         (stored (S.files store.new) (S.failures store.new)) result }
 {
-    let mut intake = Intake::of(open_holdings(alloc, file, store)?)?;
-    let lines = withdraw_each(alloc, &mut intake, words)?;
-    let desk = intake.finish()?;
+    let mut desk = open_intake(alloc, file, store)?;
+    let lines = withdraw_each(alloc, &mut desk, words)?;
+    let desk = desk.finish()?;
     // No effect at run time. The proof reads from this use that the messages are in order.
     let _ = desk.held();
     keep(alloc, &desk, name, store)?;

@@ -19,10 +19,12 @@ returns-then-same-clause-takes c = λ base text spells resolves.
 
 pub returns-in-Ok-clause-takes : goal.returns-in-Ok-clause-takes
 returns-in-Ok-clause-takes c = λ base text spells resolves.
-    let state : DeskState = record { base = base; held = map_of (all_of c.args.pages.now) } in
-    (in_conflict state text c.args.message c.args.resolved spells resolves c.at.result.now.message
-    (held_on c.args.pages.now c.args.resolved.reference c.in-Ok.place c.requires.rising c.in-Ok.ensures.found c.at.result.now c.at.ensures)
-    (λ e. false≢true (c.if-same.ensures.1 (c.message.ensures ∙ e))), refl)
+    let state : DeskState = record { base = base; held = map_of (all_of c.args.pages.now) } in (
+      in_conflict state text c.args.message c.args.resolved spells resolves c.at.result.now.message
+          (held_on c.args.pages.now c.args.resolved.reference c.in-Ok.place c.requires.rising c.in-Ok.ensures.found c.at.result.now c.at.ensures)
+          (λ e. false≢true (c.if-same.ensures.1 (c.message.ensures ∙ e))),
+      refl,
+    )
 
 pub returns-clause-takes : goal.returns-clause-takes
 returns-clause-takes c = λ base text spells resolves.

@@ -9,33 +9,33 @@ use Rattle.ssim_program.proofs.command.take.take.Goals as goal
 pub returns-in_err-desk : goal.returns-in_err-desk
 returns-in_err-desk g c =
     let is : c.from_residual.result ≡ Err c.in_err-desk.field-0.0 = search rules in
-    rw is (not_opened (g.S.Store.files c.args.store.now) (g.S.Store.failures c.args.store.now) c.args.file.now c.args.kept.now (map (λ t. t.now) c.args.names.now) (g.S.Store.files c.open_holdings.new.store) (g.S.Store.failures c.open_holdings.new.store)
-    c.args.out.now c.in_err-desk.field-0.0 c.in_err-desk.ensures.refused c.open_holdings.ensures.same c.open_holdings.ensures.counted)
+    rw is (not_opened (g.S.Store.files c.args.store.now) (g.S.Store.failures c.args.store.now) c.args.file.now c.args.kept.now (map (λ t. t.now) c.args.names.now) (g.S.Store.files c.open_intake.new.store) (g.S.Store.failures c.open_intake.new.store)
+    c.args.out.now c.in_err-desk.field-0.0 c.in_err-desk.ensures.refused c.open_intake.ensures.same c.open_intake.ensures.counted)
 
 pub returns-in_err-take_texts : goal.returns-in_err-take_texts
 returns-in_err-take_texts g c =
     let names = map (λ t. t.now) c.args.names.now in
     let is : c.from_residual-in_err-take_texts.result ≡ Err c.in_err-take_texts.field-0.0 = search rules in
-    let texts = subst (λ (f : Option Files). PrintsTexts f names c.in_ok-desk.desk c.take_texts.new.desk c.args.out.now c.take_texts.new.out (Err c.in_err-take_texts.field-0.0)) c.open_holdings.ensures.same c.in_err-take_texts.ensures.texts in
+    let texts = subst (λ (f : Option Files). PrintsTexts f names c.in_ok-desk.desk c.take_texts.new.desk c.args.out.now c.take_texts.new.out (Err c.in_err-take_texts.field-0.0)) c.open_intake.ensures.same c.in_err-take_texts.ensures.texts in
     rw is (not_taken (g.S.Store.files c.args.store.now) (g.S.Store.failures c.args.store.now) c.args.file.now c.args.kept.now names c.in_ok-desk.desk c.in_ok-desk.ensures.read c.take_texts.new.desk c.args.out.now c.take_texts.new.out
-    (g.S.Store.files c.take_texts.new.store) (g.S.Store.failures c.take_texts.new.store) c.in_err-take_texts.field-0.0 (c.take_texts.ensures.same ∙ c.open_holdings.ensures.same)
-    (c.take_texts.ensures.counted ∙ c.open_holdings.ensures.counted) texts)
+    (g.S.Store.files c.take_texts.new.store) (g.S.Store.failures c.take_texts.new.store) c.in_err-take_texts.field-0.0 (c.take_texts.ensures.same ∙ c.open_intake.ensures.same)
+    (c.take_texts.ensures.counted ∙ c.open_intake.ensures.counted) texts)
 
 pub returns-in_err-flush : goal.returns-in_err-flush
 returns-in_err-flush g c =
     let names = map (λ t. t.now) c.args.names.now in
     let is : c.from_residual-in_err-flush.result ≡ Err c.in_err-flush.field-0.0 = search rules in
-    let printed = subst (λ (f : Option Files). HavePrinted f names c.in_ok-desk.desk c.take_texts.new.desk c.args.out.now c.take_texts.new.out) c.open_holdings.ensures.same c.in_ok-take_texts.ensures.texts in
+    let printed = subst (λ (f : Option Files). HavePrinted f names c.in_ok-desk.desk c.take_texts.new.desk c.args.out.now c.take_texts.new.out) c.open_intake.ensures.same c.in_ok-take_texts.ensures.texts in
     rw is (not_flushed (g.S.Store.files c.args.store.now) (g.S.Store.failures c.args.store.now) c.args.file.now c.args.kept.now names c.in_ok-desk.desk c.in_ok-desk.ensures.read c.take_texts.new.desk c.args.out.now c.take_texts.new.out printed c.flush.new.self
-    (g.S.Store.files c.take_texts.new.store) (g.S.Store.failures c.take_texts.new.store) c.in_err-flush.field-0.0 (c.take_texts.ensures.same ∙ c.open_holdings.ensures.same)
-    (c.take_texts.ensures.counted ∙ c.open_holdings.ensures.counted) c.in_err-flush.ensures.0 c.in_err-flush.ensures.1)
+    (g.S.Store.files c.take_texts.new.store) (g.S.Store.failures c.take_texts.new.store) c.in_err-flush.field-0.0 (c.take_texts.ensures.same ∙ c.open_intake.ensures.same)
+    (c.take_texts.ensures.counted ∙ c.open_intake.ensures.counted) c.in_err-flush.ensures.0 c.in_err-flush.ensures.1)
 
 pub returns : goal.returns
 returns g c =
     let names = map (λ t. t.now) c.args.names.now in
     let files = g.S.Store.files c.args.store.now in
-    let printed = subst (λ (f : Option Files). HavePrinted f names c.in_ok-desk.desk c.take_texts.new.desk c.args.out.now c.take_texts.new.out) c.open_holdings.ensures.same c.in_ok-take_texts.ensures.texts in
+    let printed = subst (λ (f : Option Files). HavePrinted f names c.in_ok-desk.desk c.take_texts.new.desk c.args.out.now c.take_texts.new.out) c.open_intake.ensures.same c.in_ok-take_texts.ensures.texts in
     kept_or_not files (g.S.Store.failures c.args.store.now) c.args.file.now c.args.kept.now names c.in_ok-desk.desk c.in_ok-desk.ensures.read c.take_texts.new.desk c.args.out.now c.take_texts.new.out printed c.flush.new.self
     c.keep.result (g.S.Store.files c.take_texts.new.store) (g.S.Store.failures c.take_texts.new.store) (g.S.Store.files c.keep.new.store) (g.S.Store.failures c.keep.new.store) (subst AreRising c.held.ensures.value c.held.ensures.rising)
-    (c.take_texts.ensures.same ∙ c.open_holdings.ensures.same) (c.take_texts.ensures.counted ∙ c.open_holdings.ensures.counted) c.in_ok-flush.ensures.0 c.in_ok-flush.ensures.1
+    (c.take_texts.ensures.same ∙ c.open_intake.ensures.same) (c.take_texts.ensures.counted ∙ c.open_intake.ensures.counted) c.in_ok-flush.ensures.0 c.in_ok-flush.ensures.1
     c.keep.ensures.kept c.keep.ensures.same c.keep.ensures.counted c.keep.ensures.why

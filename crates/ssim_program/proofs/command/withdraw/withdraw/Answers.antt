@@ -11,8 +11,8 @@ returns-in_err-lines g c =
     let refusal = c.in_err-lines.field-0.0 in
     let is : c.from_residual-in_err-lines.result ≡ Err refusal = search rules in
     rw is (
-      inl ((refl, inr ((c.in_ok-desk.desk, c.in_ok-desk.ensures.read), c.in_err-lines.ensures.why)), c.open_holdings.ensures.counted, refl),
-      c.open_holdings.ensures.same,
+      inl ((refl, inr ((c.in_ok-desk.desk, c.in_ok-desk.ensures.read), c.in_err-lines.ensures.why)), c.open_intake.ensures.counted, refl),
+      c.open_intake.ensures.same,
     )
 
 pub returns-in_err-keep : goal.returns-in_err-keep
@@ -30,9 +30,9 @@ returns-in_err-keep g c =
         makes = (c.in_ok-desk.desk, desk, c.in_ok-desk.ensures.read, c.in_ok-lines.ensures.done, rising, refl);
         printed_is = refl;
         kept_is = refl;
-        why = subst (λ (n : ℕ). RefusesKeep n (g.S.Store.failures c.keep.new.store) name refusal) c.open_holdings.ensures.counted c.in_err-keep.ensures.why;
+        why = subst (λ (n : ℕ). RefusesKeep n (g.S.Store.failures c.keep.new.store) name refusal) c.open_intake.ensures.counted c.in_err-keep.ensures.why;
       }),
-      c.in_err-keep.ensures.same ∙ c.open_holdings.ensures.same,
+      c.in_err-keep.ensures.same ∙ c.open_intake.ensures.same,
     )
 
 pub returns : goal.returns
@@ -42,6 +42,6 @@ returns g c =
     let kept = (name, desk_file desk.base desk.held) ∷ [] in (
       kept,
       (c.in_ok-desk.desk, desk, c.in_ok-desk.ensures.read, c.in_ok-lines.ensures.done, rising, refl),
-      c.in_ok-keep.ensures.kept ∙ ap (with_kept kept) c.open_holdings.ensures.same,
-      c.in_ok-keep.ensures.counted ∙ c.open_holdings.ensures.counted,
+      c.in_ok-keep.ensures.kept ∙ ap (with_kept kept) c.open_intake.ensures.same,
+      c.in_ok-keep.ensures.counted ∙ c.open_intake.ensures.counted,
     )
