@@ -2,8 +2,6 @@
 
 ghost use Rattle.std.specs.Prelude.{◌≡◌, ◌≤◌, ◌++◌, [], ◌∷◌, length, take, drop, Ok, IfErr, IfOk};
 ghost use Rattle.std.specs.Prelude.{OnErr, OnOk};
-ghost use Rattle.std.specs.Bool.{OnFalse};
-ghost use Rattle.std.specs.FinMap.{contains_key, remove};
 ghost use Rattle.ssim_base.specs.BaseSeen.{base_with};
 ghost use Rattle.ssim_schedule.specs.Dates.{AgreeBetween};
 ghost use Rattle.ssim_schedule.specs.FlightPieces.{divided_among, divided_flights};
@@ -33,9 +31,7 @@ use crate::flights::{act_between, days_after, found_by, legs_after, pieces_after
 use crate::message_effect::act_in_order;
 use crate::offer::{Offer, offer_over};
 use ssim_base::{Base, DataSet, Stations, WriteFault};
-use ssim_held::{
-    DeskFault, Held, Opened, first_conflict, first_new, merged, put_desk, read_desk, search,
-};
+use ssim_held::{DeskFault, Held, Opened, first_conflict, first_new, merged, put_desk, read_desk};
 use ssim_periods::Periods;
 use ssim_records::{Sink, Source};
 use ssim_schedule::{ExportFault, FlightPieces, Itinerary, PlacedLeg, Schedule};
@@ -80,11 +76,24 @@ impl Holdings {
     pub(crate) fn over(alloc: Global, base: Base) -> Holdings
         ensures { result ≡ record { base = base; held = []; applied = 0 } }
     {
-        Holdings {
-            base,
-            held: Vec::new(alloc),
-            alloc,
-        }
+        Holdings::with(alloc, base, Vec::new(alloc))
+    }
+
+    /// A base, and messages.
+    pub(crate) fn with(alloc: Global, base: Base, held: Vec<Held>) -> Holdings
+        requires { AreEntries base.records held.items }
+        ensures { result ≡ record { base = base; held = held.items; applied = 0 } }
+    {
+        Holdings { base, held, alloc }
+    }
+
+    /// The base, the messages and the allocator.
+    pub(crate) fn into_parts(self) -> (Base, Vec<Held>, Global)
+        ensures parts { self ≡ record { base = result.0; held = result.1.items; applied = 0 } }
+        ensures kept { AreEntries result.0.records result.1.items }
+    {
+        let Holdings { base, held, alloc } = self;
+        (base, held, alloc)
     }
 
     /// Opens a desk file: reads all bytes of the reader, at most `limit`, and what the desk whose
@@ -162,22 +171,6 @@ impl Holdings {
             self.replace_from(at, rest)?;
         }
         Ok(())
-    }
-
-    /// Holds the message of a reference no longer. Returns whether it was held. Allocates nothing.
-    pub fn withdraw(&mut self, reference: &Reference) -> bool
-        ensures held { map_of self.new.held ≡ remove (map_of self.old.held) reference.now }
-        ensures was_held { result ≡ contains_key (map_of self.old.held) reference.now }
-        ensures base { self.new.base ≡ self.old.base }
-        ensures absent { OnFalse result (self.new ≡ self.old) }
-    {
-        match search(&self.held, reference) {
-            Ok(at) => {
-                self.held.remove(at);
-                true
-            }
-            Err(_) => false,
-        }
     }
 
     /// Writes the desk file, as `Desk::save` does. Allocates nothing.
@@ -332,11 +325,7 @@ impl Holdings {
             stations,
             held,
         } = opened;
-        Holdings {
-            base: Base::of(data_set, stations),
-            held,
-            alloc,
-        }
+        Holdings::with(alloc, Base::of(data_set, stations), held)
     }
 
     /// The allocator of what is held.

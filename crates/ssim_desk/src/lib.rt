@@ -5,6 +5,7 @@
 //!   schedule that the messages leave. [`Took`] and [`DeskFault`]: the results.
 //! - [`Holdings`]: the base and the messages of a desk without its timetable, for callers that ask
 //!   for none, or once for few flights or for the export.
+//! - [`Intake`]: the holdings while many messages come and go, in any order of reference.
 //! - [`Held`]: a message that a desk holds, with its reference and its canonical text.
 //! - [`FindingLine`]: what a sub-message found on the dates of its period.
 //! - [`DateHistory`]: what each sub-message did with a flight on one date, one [`DateStep`] each.
@@ -30,6 +31,7 @@ mod finding_line;
 mod flights;
 mod holder;
 mod holdings;
+mod intake;
 pub mod laws;
 mod message_effect;
 mod offer;
@@ -42,5 +44,6 @@ pub use desk::{Desk, Took};
 pub use finding_line::FindingLine;
 pub use holder::Holder;
 pub use holdings::Holdings;
+pub use intake::Intake;
 pub use ssim_held::{DeskFault, Held, WriteFault};
 pub use steps::{Answer, Step, run_steps};

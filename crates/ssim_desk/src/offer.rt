@@ -6,6 +6,7 @@ ghost use Rattle.ssim_base.specs.BaseSeen.{BaseSeen};
 ghost use Rattle.ssim_base.specs.ReadBack.{HasFrame};
 ghost use Rattle.ssim_base.specs.Resolve.{ResolvesIn};
 ghost use Rattle.ssim_text.specs.Spelling.{SpellsMessage};
+ghost use Rattle.ssim_held.specs.Held.{DeskState};
 ghost use Rattle.ssim_held.specs.Entries.{AreEntries, AreRising, map_of};
 ghost use Rattle.ssim_desk.specs.internal.Changes.{IsOffer};
 ghost use Rattle.ssim_desk.specs.Steps.{RefusesText};
@@ -40,9 +41,28 @@ pub(crate) fn offer_over(
     ensures err { (base : BaseSeen) → HasFrame frame.now base.records
         → IfErr result (RefusesText (record { base = base; held = map_of held.now }) text.now) }
 {
+    let (message, resolved) = resolve_text(alloc, frame, text)?;
+    offer_resolved(alloc, held, message, resolved)
+}
+
+/// The message of a text, and its year and full dates in a base with this frame.
+///
+/// Returns the first of: 20 to 29 if the text is no message, 40 to 43 if the message does not
+/// resolve.
+pub(crate) fn resolve_text(
+    alloc: Global,
+    frame: &BaseFrame,
+    text: &[u8],
+) -> Result<(Message, ResolvedText), DeskFault>
+    requires { (records : List Record) × HasFrame frame.now records }
+    ensures ok { (records : List Record) → HasFrame frame.now records → IfOk result
+        (λ read. SpellsMessage read.0 text.now × ResolvesIn records read.0 read.1) }
+    ensures err { (desk : DeskState) → HasFrame frame.now desk.base.records
+        → IfErr result (RefusesText desk text.now) }
+{
     let message = decode(alloc, text)?;
     let resolved = frame.resolve(&message)?;
-    offer_resolved(alloc, held, message, resolved)
+    Ok((message, resolved))
 }
 
 // What a message that resolves is to the messages that are held.

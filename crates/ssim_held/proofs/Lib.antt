@@ -4,6 +4,7 @@ pub mod References
 pub mod Resolving
 pub mod Entries
 pub mod Searching
+pub mod OnPages
 pub mod Withdrawing
 pub mod TwoLists
 pub mod Unions

@@ -5,6 +5,7 @@
 //! - [`look`]: looks a message up in a list in order of reference; [`LookUp`]: what is held under
 //!   its reference. [`search`]: the position of a reference.
 //! - [`first_conflict`], [`first_new`], [`merged`]: two such lists, compared and put together.
+//! - [`Pages`]: such a list on pages, to which messages come in any order; [`Place`]: where one is.
 //! - [`put_desk`]: writes the desk file of a base and the messages that are held over it; or
 //!   [`WriteFault`], 52.
 //! - [`read_desk`]: reads a desk file from a reader, and returns its base and messages ([`Opened`])
@@ -13,7 +14,7 @@
 //!
 //! The definitions that the contracts cite are in `specs/`: `Held` (messages by reference, and what
 //! a desk is), `Entries` (the entries of a list), `Ordered` (the position of a message in a list,
-//! and two lists merged), `File` and `Opening` (the bytes of a desk file, and what reading them
+//! and two lists merged), `Pages` (the position of a message on pages), `File` and `Opening` (the bytes of a desk file, and what reading them
 //! returns), and `Fault`. Computed examples are in `proofs/Examples`.
 //!
 //! The promise: the list says exactly which message is held under which reference; and bytes are
@@ -26,6 +27,7 @@ mod fault;
 mod held;
 pub mod laws;
 mod lookup;
+mod pages;
 mod row_line;
 mod union;
 
@@ -34,5 +36,6 @@ pub use desk_file_writer::put_desk;
 pub use fault::DeskFault;
 pub use held::Held;
 pub use lookup::{LookUp, look, search};
+pub use pages::{Pages, Place};
 pub use ssim_base::WriteFault;
 pub use union::{first_conflict, first_new, merged};

@@ -22,7 +22,7 @@ ghost use Rattle.ssim_program.specs.declared.refusal.Refusal.TheVariants as refu
 use crate::command::receive::mailboxes::receive_files;
 use crate::command::receive::receipt::{lines_of, refused_texts};
 use crate::content_kind::ContentKind;
-use crate::desk_file::{keep, open_holdings};
+use crate::desk_file::{keep, open_intake};
 use crate::hold::{hold, keep_content};
 use crate::print::printer::{Printer, print_all};
 use crate::refusal::Refusal;
@@ -56,10 +56,11 @@ fn received_by<S: Store>(
     ensures same { S.files store.new ≡ S.files store.old }
     ensures counted { S.failures store.new ≡ S.failures store.old }
 {
-    let mut desk = open_holdings(alloc, file, store)?;
+    let mut desk = open_intake(alloc, file, store)?;
     let receipts = receive_files(alloc, &mut desk, names, store)?;
     let lines = lines_of(alloc, &receipts)?;
     let refused = refused_texts(alloc, &receipts)?;
+    let desk = desk.finish()?;
     // No effect at run time. The proof reads from this use that the messages are in order.
     let _ = desk.held();
     Ok(Received {

@@ -13,13 +13,13 @@ ghost use Rattle.ssim_program.specs.declared.content_kind.ContentKind.TheVariant
 
 use crate::content_kind::ContentKind;
 use crate::data_set::load_file;
-use crate::desk_file::{keep, open_holdings};
+use crate::desk_file::{keep, open_intake};
 use crate::hold::hold;
 use crate::print::printed_line::{PrintedLine, line_of};
 use crate::print::printer::{Printer, print_all};
 use crate::refusal::Refusal;
 use crate::store::Store;
-use ssim_desk::{DeskFault, Holdings, Took};
+use ssim_desk::{DeskFault, Intake, Took};
 use ssim_text::Reference;
 use std::alloc::Global;
 use std::io::Write;
@@ -58,9 +58,10 @@ fn take_in<S: Store, W: Write>(
         (world (S.files store.old) (S.failures store.old) out.old)
         (world (S.files store.new) (S.failures store.new) out.new) result }
 {
-    let mut desk = open_holdings(alloc, file, store)?;
+    let mut desk = open_intake(alloc, file, store)?;
     take_texts(alloc, &mut desk, names, store, out)?;
     out.flush()?;
+    let desk = desk.finish()?;
     // No effect at run time. The proof reads from this use that the messages are in order.
     let _ = desk.held();
     keep(alloc, &desk, place, store)
@@ -69,7 +70,7 @@ fn take_in<S: Store, W: Write>(
 /// Takes the texts in these files, and prints what became of each.
 fn take_texts<S: Store, W: Write>(
     alloc: Global,
-    desk: &mut Holdings,
+    desk: &mut Intake,
     names: &[&str],
     store: &mut S,
     out: &mut Printer<'_, W>,
@@ -92,7 +93,7 @@ fn take_texts<S: Store, W: Write>(
 /// Takes the text in this file. Returns the line that says what became of it.
 fn take_text<S: Store>(
     alloc: Global,
-    desk: &mut Holdings,
+    desk: &mut Intake,
     name: &str,
     store: &mut S,
 ) -> Result<Vec<u8>, Refusal>
@@ -107,7 +108,7 @@ fn take_text<S: Store>(
 }
 
 /// Takes a text. Returns what became of it, with the reference of its message.
-fn take_one(desk: &mut Holdings, text: &[u8]) -> Result<(Took, Reference), DeskFault>
+fn take_one(desk: &mut Intake, text: &[u8]) -> Result<(Took, Reference), DeskFault>
     ensures done { IfOk result (λ r. IsTaken desk.old text.now r.0 r.1 desk.new) }
     ensures refused { IfErr result (RefusesText (state_of desk.old) text.now) }
 {

@@ -10,12 +10,12 @@ ghost use Rattle.ssim_program.specs.internal.Program.{Prepares, stored};
 ghost use Rattle.ssim_program.specs.declared.content_kind.ContentKind.TheVariants as kind;
 
 use crate::content_kind::ContentKind;
-use crate::desk_file::{keep, open_holdings};
+use crate::desk_file::{keep, open_intake};
 use crate::hold::hold;
 use crate::print::printed_line::{PrintedLine, add_line};
 use crate::refusal::Refusal;
 use crate::store::Store;
-use ssim_desk::Holdings;
+use ssim_desk::Intake;
 use ssim_text::Reference;
 use std::alloc::Global;
 
@@ -50,8 +50,9 @@ fn withdraw_in<S: Store>(
         (stored (S.files store.old) (S.failures store.old))
         (stored (S.files store.new) (S.failures store.new)) result }
 {
-    let mut desk = open_holdings(alloc, file, store)?;
+    let mut desk = open_intake(alloc, file, store)?;
     let lines = withdraw_each(alloc, &mut desk, words)?;
+    let desk = desk.finish()?;
     // No effect at run time. The proof reads from this use that the messages are in order.
     let _ = desk.held();
     keep(alloc, &desk, place, store)?;
@@ -59,7 +60,7 @@ fn withdraw_in<S: Store>(
 }
 
 /// Withdraws the message of each reference that the words spell. Returns their lines.
-fn withdraw_each(alloc: Global, desk: &mut Holdings, words: &[&str]) -> Result<Vec<u8>, Refusal>
+fn withdraw_each(alloc: Global, desk: &mut Intake, words: &[&str]) -> Result<Vec<u8>, Refusal>
     ensures done { IfOk result
         (λ lines. WithdrawsFrom (map (λ t. t.now) words.now) desk.old desk.new lines.items) }
     ensures why { IfErr result (RefusesReferences (map (λ t. t.now) words.now)) }

@@ -10,7 +10,7 @@ ghost use Rattle.ssim_program.specs.internal.Receive.{Adds, receipt_of, receipts
 use crate::command::receive::receipt::Receipt;
 use crate::data_set::LIMIT;
 use crate::store::{Store, StoreFault};
-use ssim_desk::Holdings;
+use ssim_desk::Intake;
 use ssim_mailbox::{Text, Texts};
 use ssim_values::Memory;
 use std::alloc::Global;
@@ -36,7 +36,7 @@ fn load_mailbox<S: Store>(
 }
 
 /// Tries a text of a file.
-fn try_text<'n>(desk: &mut Holdings, file: &'n str, text: Text) -> Receipt<'n>
+fn try_text<'n>(desk: &mut Intake, file: &'n str, text: Text) -> Receipt<'n>
     ensures { Tries file.now desk.old (mail_of text) (receipt_of result) desk.new }
 {
     match desk.take(&text.bytes) {
@@ -53,7 +53,7 @@ fn try_text<'n>(desk: &mut Holdings, file: &'n str, text: Text) -> Receipt<'n>
 /// Tries the texts of the mailbox in a file, one after another.
 fn try_texts<'n>(
     alloc: Global,
-    desk: &mut Holdings,
+    desk: &mut Intake,
     file: &'n str,
     mailbox: &[u8],
     receipts: &mut Vec<Receipt<'n>>,
@@ -72,7 +72,7 @@ fn try_texts<'n>(
 /// Tries the texts of the mailbox in the file of this name.
 fn receive_file<'n, S: Store>(
     alloc: Global,
-    desk: &mut Holdings,
+    desk: &mut Intake,
     file: &'n str,
     store: &mut S,
     receipts: &mut Vec<Receipt<'n>>,
@@ -94,7 +94,7 @@ fn receive_file<'n, S: Store>(
 /// Tries the texts of the mailboxes in the files of these names, in order.
 pub(crate) fn receive_files<'n, S: Store>(
     alloc: Global,
-    desk: &mut Holdings,
+    desk: &mut Intake,
     names: &[&'n str],
     store: &mut S,
 ) -> Result<Vec<Receipt<'n>>, Memory>

@@ -1,0 +1,135 @@
+#!/usr/bin/env python3
+"""Measures whether messages may come in any order: orders.py OURS [COUNT] [FOLDER]
+
+COUNT (100,000), twice and four times as many small texts are brought to an empty desk in order of reference, in falling order, and in a
+seeded random order:
+
+- `receive` reads them from one mailbox file. All three orders end with the same desk file, which is checked;
+- `take` reads each from a file of its own: a quarter as many texts, as many names as a command line can have;
+- `withdraw` takes away every 20th message, in the three orders;
+- `merge` brings two desks together that have every other message each, and two of which one has all earlier messages;
+- `findings` opens a desk file, which has its messages in order.
+
+Each runs three times, and the least processor time counts, as the processor is shared. The first ratio of an order is to that of the
+messages in order, the last column is the time of a message against that of the smallest count.
+"""
+import filecmp
+import os
+import random
+import resource
+import subprocess
+import sys
+import tempfile
+
+from measure import HERE, RUNS
+
+ORDERS = ("sorted", "falling", "random")
+SAMPLES = os.path.join(os.path.dirname(HERE), "samples")
+
+
+def reference(number):
+    return f"01FEB{1 + number // 10:05}E{1 + number % 10:03}"
+
+
+def text(number):
+    """A text that changes the equipment of a flight of the sample season in some weeks."""
+    return f"SSM\nLT\n{reference(number)}\nEQT\nZ7341\n03JUL27 29AUG27 67\nJ 32N CY\n"
+
+
+def in_orders(numbers):
+    """The numbers in the three orders."""
+    numbers = list(numbers)
+    return {"sorted": numbers, "falling": numbers[::-1], "random": random.Random(1).sample(numbers, len(numbers))}
+
+
+def seconds(words, folder):
+    """Processor seconds of one run."""
+    before = resource.getrusage(resource.RUSAGE_CHILDREN)
+    subprocess.run(words, cwd=folder, check=True, stdout=subprocess.DEVNULL)
+    after = resource.getrusage(resource.RUSAGE_CHILDREN)
+    return after.ru_utime + after.ru_stime - before.ru_utime - before.ru_stime
+
+
+def least(words, folder):
+    return min(seconds(words, folder) for _ in range(RUNS))
+
+
+class Report:
+    """The rows of the table, and the time of a message at the smallest count."""
+
+    def __init__(self):
+        self.first = {}
+        print("| Command | Messages | Seconds | Ratio to sorted | A message, to the fewest |\n|---|---|---|---|---|")
+
+    def row(self, title, count, spent, sorted_spent):
+        self.first.setdefault(title, spent / count)
+        print(f"| {title} | {count:,} | {spent:.3f} | {spent / sorted_spent:.2f} | {spent / count / self.first[title]:.2f} |", flush=True)
+
+
+def write_mailbox(path, numbers):
+    with open(path, "w") as file:
+        file.write("".join(text(number) + "NNNN\n" for number in numbers))
+
+
+def measure_receive(ours, folder, count, report):
+    spent = {}
+    for order, numbers in in_orders(range(count)).items():
+        write_mailbox(os.path.join(folder, order), numbers)
+        spent[order] = least([ours, "receive", "empty", f"{order}.desk", order], folder)
+        report.row(f"`receive`, {order}", count, spent[order], spent["sorted"])
+    for order in ORDERS[1:]:
+        if not filecmp.cmp(*[os.path.join(folder, f"{name}.desk") for name in ("sorted", order)], shallow=False):
+            sys.exit(f"{order}: another desk file")
+
+
+def measure_take(ours, folder, count, report):
+    """The names of the files are short, since they are all on one command line."""
+    for number in range(count):
+        with open(os.path.join(folder, f"{number:x}"), "w") as file:
+            file.write(text(number))
+    spent = {}
+    for order, numbers in in_orders(range(count)).items():
+        spent[order] = least([ours, "take", "empty", "taken.desk", *[f"{number:x}" for number in numbers]], folder)
+        report.row(f"`take`, {order}", count, spent[order], spent["sorted"])
+
+
+def measure_withdraw(ours, folder, count, report):
+    spent = {}
+    for order, numbers in in_orders(range(0, count, 20)).items():
+        words = [f"SSM {reference(number)[:5]}27 {reference(number)[5:10]} {reference(number)[11:]}" for number in numbers]
+        spent[order] = least([ours, "withdraw", "sorted.desk", "less.desk", *words], folder)
+        report.row(f"`withdraw`, {order}", count, spent[order], spent["sorted"])
+
+
+def measure_merge(ours, folder, count, report):
+    halves = {"earlier": range(count // 2), "later": range(count // 2, count), "even": range(0, count, 2), "odd": range(1, count, 2)}
+    for name, numbers in halves.items():
+        write_mailbox(os.path.join(folder, name), numbers)
+        subprocess.run([ours, "receive", "empty", f"{name}.desk", name], cwd=folder, check=True, stdout=subprocess.DEVNULL)
+    spent = {}
+    for one, other in (("earlier", "later"), ("even", "odd")):
+        spent[one] = least([ours, "merge", f"{one}.desk", f"{other}.desk", "merged.desk"], folder)
+        report.row(f"`merge`, {one} and {other}", count, spent[one], spent["earlier"])
+
+
+def main():
+    if not 2 <= len(sys.argv) <= 4:
+        sys.exit(__doc__)
+    ours = os.path.abspath(sys.argv[1])
+    fewest = int(sys.argv[2]) if len(sys.argv) > 2 else 100_000
+    folder = os.path.abspath(sys.argv[3]) if len(sys.argv) > 3 else tempfile.mkdtemp()
+    os.makedirs(folder, exist_ok=True)
+    open(os.path.join(folder, "none"), "w").close()
+    subprocess.run([ours, "start", os.path.join(SAMPLES, "season.ssim"), "none", "empty"], cwd=folder, check=True, stdout=subprocess.DEVNULL)
+    report = Report()
+    for count in (fewest, 2 * fewest, 4 * fewest):
+        measure_receive(ours, folder, count, report)
+        measure_take(ours, folder, count // 4, report)
+        measure_withdraw(ours, folder, count, report)
+        measure_merge(ours, folder, count, report)
+        opened = least([ours, "findings", "sorted.desk"], folder)
+        report.row("`findings`", count, opened, opened)
+
+
+if __name__ == "__main__":
+    main()
