@@ -1,14 +1,15 @@
 -- What a command does to the world, from what it makes and what is printed of it.
-use Rattle.std.proofs.Common.{◌≡◌, inl, inr, ℕ, Vec, List, [], Option, Result, Ok, Err, IfErr, IfOk, refl}
+use Rattle.std.proofs.Common.{◌≡◌, inl, inr, ℕ, Vec, List, [], Option, None, Some, Result, Ok, Err, IfErr, IfOk, refl}
 use Rattle.ssim_program.specs.Again.{PrintsItself}
 use Rattle.ssim_program.specs.Effects.{Begins, Makes}
 use Rattle.ssim_program.specs.Files.{Files, Kept, with_kept}
-use Rattle.ssim_command_line.specs.Line.{Line, Check, Problems, Tidy, Start, Take, Merge, Withdraw, Receive}
+use Rattle.ssim_command_line.specs.Line.{Text, Line, Check, Problems, Tidy, Start, Take, Merge, Withdraw, Receive}
 use Rattle.ssim_command_line.specs.Line.{Texts, Show, History, Calendar, Findings, Export, Rehearse}
 use Rattle.ssim_command_line.specs.Line.{Explain, Page, Board, Diff, Publish, Listing}
 use Rattle.ssim_program.specs.print.Paper.{Paper}
 use Rattle.ssim_program.specs.internal.Print.{Prints}
 use Rattle.ssim_program.specs.print.Reasons.{Refuses}
+use Rattle.ssim_program.specs.Receiving.{RefusesPlaces}
 use Rattle.ssim_program.specs.World.{Stops, world}
 use Rattle.ssim_program.specs.internal.Program.{Does, Prepares, PrintsAtOnce, stored}
 use Rattle.ssim_program.specs.declared.refusal.Refusal.{Refusal}
@@ -102,3 +103,31 @@ prepared line old n new m P Q (Err refusal) made why same counted ok err = (inl 
 pub refused_before : {A : Type 0} (line : Line) (old : Option Files) (n : ℕ) (new : Option Files) (m : ℕ) (refusal : Refusal) (r : Result (Vec ℕ A) Refusal)
     → r ≡ Err refusal → Refuses line old [] refusal → new ≡ old → m ≡ n → Prepares line (stored old n) (stored new m) r
 refused_before line old n new m refusal r is why same counted = rw is (inl (why, counted, refl), same)
+
+no_place : (texts : Option Text) (file out : Text) (names : List Text) (files : Option Files) → RefusesPlaces files texts file out names refused.Memory
+no_place None file out names files = inl refl
+no_place (Some name) file out names files = inl (inl refl)
+
+-- memory ran out before anything was done
+pub memory_refuses : (line : Line) (files : Option Files) → Refuses line files [] refused.Memory
+memory_refuses (Check name) files = (refl, inl (inl refl))
+memory_refuses (Problems name) files = (refl, inl refl)
+memory_refuses (Tidy name) files = (refl, inl (inl (inl refl)))
+memory_refuses (Start dataset stations out) files = inl (refl, inl refl)
+memory_refuses (Take file out names) files = inl (refl, inl refl)
+memory_refuses (Receive refused file out names) files = (refl, inl (no_place refused file out names files))
+memory_refuses (Merge file other out) files = inl (refl, inl refl)
+memory_refuses (Withdraw file out references) files = inl (refl, inl refl)
+memory_refuses (Texts file flights) files = (refl, inl (inl (inl refl)))
+memory_refuses (Show file flight date) files = (refl, inl (inl (inl refl)))
+memory_refuses (History file flight date) files = (refl, inl (inl (inl refl)))
+memory_refuses (Board file station date) files = (refl, inl (inl (inl refl)))
+memory_refuses (Listing form file flights) files = (refl, inl (inl (inl refl)))
+memory_refuses (Calendar file flight) files = (refl, inl (inl (inl refl)))
+memory_refuses (Page file) files = (refl, inl (inl (inl refl)))
+memory_refuses (Diff from to) files = (refl, inl (inl (inl refl)))
+memory_refuses (Publish from to reference out) files = inl (refl, inl refl)
+memory_refuses (Findings file) files = (refl, inl (inl (inl refl)))
+memory_refuses (Export file) files = (refl, inl (inl (inl refl)))
+memory_refuses (Rehearse dataset stations script) files = (refl, inl refl)
+memory_refuses (Explain word) files = (refl, inl refl)

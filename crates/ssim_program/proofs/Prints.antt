@@ -94,7 +94,7 @@ module _ (no_two : NoTwoDesks) where
       is.printed_is ∙ (λ i. message_texts (messages_on (flights i) (one.1 i))) ∙ sym are.printed_is
 
   pub withdraw_same : OneReference → (out : Text) (references : List Text) → PrintsTheSame (λ file. Withdraw file out references)
-  withdraw_same one_each out words files others name another printed again kept also same (desk, after, read, is, _, _) (other, last, reads, are, _, _) =
+  withdraw_same one_each out words files others name another printed again kept also same (desk, after, read, is, _, _, _) (other, last, reads, are, _, _, _) =
       let one = one_desk files others name another desk other same read reads in
       printed_once one_each words (map_of other.held) (map_of after.held) (map_of last.held) printed again
       (subst (λ (es : List Entry). Withdraws words (map_of es) (map_of after.held) printed) one.1 is.withdraws) are.withdraws

@@ -7,9 +7,10 @@
 //!   which files it may replace.
 //! - [`Refusal`]: why a command was refused; [`RefusalLine`]: its line; [`PrintedLine`]: the lines
 //!   that commands print.
-//! - [`laws`]: offices to whose desks the same messages were brought have the same desk file; a
-//!   rehearsal of such desks ends with `same`; what `tidy` wrote is tidied to itself; the refusal of
-//!   a data set is its first problem.
+//! - [`laws`]: offices to whose desks the same messages were brought have the same desk file;
+//!   commands that run at once lose no message that one of them took; a rehearsal of such desks ends
+//!   with `same`; what `tidy` wrote is tidied to itself; the refusal of a data set is its first
+//!   problem.
 //!
 //! **Promise.** The words of a command are no fault of the command line. With status 0 a command
 //! has written exactly what its definition makes of the files that it names, and kept exactly the
@@ -18,7 +19,8 @@
 //! `merge`, `withdraw` or `publish` kept stays. If it is another, no file has changed and nothing
 //! was written to `out`, but `take` has printed what became of the texts before the one that is
 //! refused, and `receive` what became of all texts if a file is not kept: its refused texts, or its
-//! desk after them. Help goes to `out`, and what is wrong with the words to `err`.
+//! desk after them. A command holds the files that it keeps before it reads any, and replaces none of
+//! another kind. Help goes to `out`, and what is wrong with the words to `err`.
 #![tactic(auto)]
 
 mod command;

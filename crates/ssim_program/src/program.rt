@@ -163,7 +163,8 @@ pub fn run_on<S: Store, O: Write, E: Write>(
     // A command is refused for one reason, whose line is printed on `err`. Unless that is 52, no
     // file changed but the refused texts of `receive`, and nothing was printed on `out` but the
     // lines of `take` and `receive`; if it is 52, a call of `out` failed, and it has taken a prefix
-    // of what the command prints. The store counted a failure exactly if it failed to keep a file.
+    // of what the command prints. The store counted a failure exactly if it failed to keep a file
+    // (91).
     ensures ends { (line : Line) → Names (map (λ w. w.now) words.now) line → result ≡ 1
         → EndsWithLine line (world (S.files store.old) (S.failures store.old) out.old)
         (world (S.files store.new) (S.failures store.new) out.new) err.old err.new }

@@ -5,12 +5,16 @@ use ssim_program::{ContentKind, Hold, HoldFault, KeepFault};
 use std::alloc::Global;
 use std::fs::{File, Metadata, OpenOptions, TryLockError};
 use std::io::{ErrorKind, Read};
+use std::os::fd::AsRawFd;
 use std::os::unix::fs::MetadataExt;
 use std::rt::Files;
-use std::{fs, io};
+use std::{fs, io, mem};
 
 /// How often another file may come to the place while it is opened.
 const TRIES: u32 = 100;
+
+/// The number of the standard streams, whose numbers begin with 0.
+const STANDARD: i32 = 3;
 
 /// How many bytes tell the kind of a file.
 const BEGINNING: usize = 35;
@@ -104,6 +108,27 @@ fn open<R: Files<File = File>>(rt: &R, name: &str) -> io::Result<File> {
     }
 }
 
+/// The same open file under a number that is none of a standard stream, so that nothing is printed
+/// into it if the program was started without one of them.
+fn apart(alloc: Global, file: File) -> Result<File, HoldFault> {
+    let mut file = file;
+    let mut others = Vec::new(alloc);
+    for _ in 0..STANDARD {
+        if file.as_raw_fd() >= STANDARD {
+            return Ok(file);
+        }
+        let copy = match file.try_clone() {
+            Ok(copy) => copy,
+            Err(error) => return Err(fault_of(&error)),
+        };
+        let other = mem::replace(&mut file, copy);
+        if others.push(other).is_err() {
+            return Err(HoldFault::Memory);
+        }
+    }
+    Ok(file)
+}
+
 /// Locks an open file without waiting. Returns whether no other program holds it; a file system
 /// without locks says so of each file.
 pub(crate) fn lock(file: &File) -> bool {
@@ -138,10 +163,14 @@ fn fault_of(error: &io::Error) -> HoldFault {
 }
 
 /// The regular file of this name, locked; nothing if it has gone.
-fn locked<R: Files<File = File>>(rt: &R, name: &str) -> Result<Option<File>, HoldFault> {
+fn locked<R: Files<File = File>>(
+    rt: &R,
+    alloc: Global,
+    name: &str,
+) -> Result<Option<File>, HoldFault> {
     for _ in 0..TRIES {
         let file = match open(rt, name) {
-            Ok(file) => file,
+            Ok(file) => apart(alloc, file)?,
             Err(error) if error.kind() == ErrorKind::NotFound => return Ok(None),
             Err(error) => return Err(fault_of(&error)),
         };
@@ -172,10 +201,11 @@ fn read_beginning(file: &mut File, bytes: &mut [u8]) -> io::Result<usize> {
 /// What is at the place of a regular file, which is locked if it may be replaced.
 fn found_regular<R: Files<File = File>>(
     rt: &R,
+    alloc: Global,
     name: &str,
     kind: ContentKind,
 ) -> Result<Found, HoldFault> {
-    let Some(mut file) = locked(rt, name)? else {
+    let Some(mut file) = locked(rt, alloc, name)? else {
         return Ok(Found::Nothing);
     };
     let mut beginning = [0; BEGINNING];
@@ -205,7 +235,7 @@ pub(crate) fn hold_file<R: Files<File = File>>(
 ) -> Result<FileHold, HoldFault> {
     let found = match rt.metadata(name) {
         _ if name == "-" => Found::Other,
-        Ok(there) if there.is_file() => found_regular(rt, name, kind)?,
+        Ok(there) if there.is_file() => found_regular(rt, alloc, name, kind)?,
         Err(error) if error.kind() == ErrorKind::NotFound => Found::Nothing,
         _ => Found::Other,
     };
