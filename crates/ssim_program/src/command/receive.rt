@@ -14,7 +14,6 @@ ghost use Rattle.ssim_program.specs.internal.Receive.{HasReceived, KeepsEach};
 ghost use Rattle.ssim_program.specs.declared.refusal.Refusal.TheVariants as refused;
 
 use crate::command::receive::mailboxes::receive_files;
-use crate::command::receive::receipt::{lines_of, refused_texts};
 use crate::desk_file::{keep, keep_content, open_holdings};
 use crate::print::printer::{Printer, print_all};
 use crate::refusal::Refusal;
@@ -49,9 +48,7 @@ fn received_by<S: Store>(
     ensures counted { S.failures store.new ≡ S.failures store.old }
 {
     let mut desk = open_holdings(alloc, file, store)?;
-    let receipts = receive_files(alloc, &mut desk, names, store)?;
-    let lines = lines_of(alloc, &receipts)?;
-    let refused = refused_texts(alloc, &receipts)?;
+    let (lines, refused) = receive_files(alloc, &mut desk, names, store)?.finish()?;
     // No effect at run time. The proof reads from this use that the messages are in order.
     let _ = desk.held();
     Ok(Received {
