@@ -1,5 +1,6 @@
 //! A text of which some lines are read.
-ghost use Rattle.std.specs.Prelude.{◌≡◌, ◌≤◌, ◌++◌, [], ◌∷◌, List, None, OnOk, false, length, option_map, true};
+ghost use Rattle.std.specs.Prelude.{◌≡◌, ◌≤◌, ◌++◌, [], ◌∷◌, List, None, OnOk, false, length};
+ghost use Rattle.std.specs.Prelude.{option_map, true};
 ghost use Rattle.ssim_mailbox.specs.declared.free_text.FreeText.TheVariants.{Ahead};
 ghost use Rattle.ssim_mailbox.specs.FreeTexts.{free_after};
 ghost use Rattle.ssim_mailbox.specs.Lines.{MailLine};

@@ -5,9 +5,9 @@
 //!   which it begins.
 //!
 //! Control characters at both ends of a line, and blanks and CR bytes at its end are dropped first.
-//! A line `SSM` or `ASM` begins a text, or the origin line above it. `NNNN` ends one, and so does an
-//! empty line in its free text. Address lines and a line `ZCZC` directly above a text are part of
-//! none. Any other lines are part of the text above, or a text of their own. Empty lines at both
+//! A line `SSM` or `ASM` begins a text, or the origin line above it. `NNNN` ends one, and so does
+//! an empty line in its free text. Address lines and a line `ZCZC` directly above a text are part
+//! of none. Any other lines are part of the text above, or a text of their own. Empty lines at both
 //! ends of a text are no part of it.
 //!
 //! **Promise.** The texts are exactly those that the definitions name, or memory is missing.

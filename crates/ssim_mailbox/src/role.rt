@@ -98,8 +98,9 @@ fn role_of(bytes: &[u8], ahead: Ahead, below: Ahead) -> Role
 impl Role {
     /// The role of a line that has this role if it is not under a dot.
     pub(crate) fn of(self, line: &Line) -> Role
-        ensures { (n : ℕ) (piece : List ℕ) (below : List MailLine) → shown piece ≡ line.now.bytes.now
-            → self ≡ role_of (plain_line n piece) below → result ≡ role_of (line_of line.now) below }
+        ensures { (n : ℕ) (piece : List ℕ) (below : List MailLine)
+            → shown piece ≡ line.now.bytes.now → self ≡ role_of (plain_line n piece) below
+            → result ≡ role_of (line_of line.now) below }
     {
         if line.under_dot && is_kind(line.bytes) {
             Role::Inside

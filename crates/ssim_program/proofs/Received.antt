@@ -1,51 +1,106 @@
 -- Texts and files that are received one after another: what is left goes on from what was received.
-use Rattle.std.proofs.Common.{◌≡◌, ◌∙◌, List, [], ◌∷◌, ◌++◌, Option, refl, sym, ap, subst, append_assoc, append-nil}
-use Rattle.std.proofs.lemmas.List.{map-append}
+use Rattle.std.proofs.Common.{◌≡◌, ◌≤◌, ◌<◌, ◌^◌, ◌+◌, ◌∙◌, ℕ, Bool, cond, List, [], ◌∷◌, ◌++◌, Option, Result, Ok, Err, OnOk, length, refl, sym, ap, subst, append_assoc, append-nil, length-append, arith}
+use Rattle.std.specs.List.{count_by, flat_map}
+use Rattle.std.proofs.lemmas.Grind.{flat_map-append}
+use Rattle.std.proofs.lemmas.List.Sums.{count_by-le-length, sum_by-append}
+use Rattle.ssim_base.specs.Export.{line}
 use Rattle.ssim_mailbox.specs.Texts.{MailText}
 use Rattle.ssim_held.specs.Entries.{DeskSeen}
 use Rattle.ssim_command_line.specs.Line.{Text}
 use Rattle.ssim_program.specs.Files.{Files}
 use Rattle.ssim_program.specs.Receiving.{Receipt, ReceivesEach, ReceivesFile, Tries, TriesEach}
-use Rattle.ssim_program.specs.internal.Receive.{Adds, receipt_of, receipts_of}
-use Rattle.ssim_program.specs.declared.command.receive.receipt.Receipt as code
+use Rattle.ssim_program.specs.Receiving.{is_refused, is_repeated, is_taken, receipt_text, refused_text}
+use Rattle.ssim_program.specs.internal.Receive.{Adds, AddsOne, AreReceipts}
+use Rattle.ssim_program.specs.declared.command.receive.receipt.Receipts.{Receipts}
 
 -- what a desk receives, from one state to another
 abbrev pub Receiving : Type 1
 Receiving = DeskSeen → List Receipt → DeskSeen → Type 0
 
 -- some receipts were added, and what is left makes the whole of what was received so far
-abbrev pub Through : Receiving → Receiving → DeskSeen → DeskSeen → List code.Receipt → List code.Receipt → Type 0
+abbrev pub Through : Receiving → Receiving → DeskSeen → DeskSeen → Receipts → Receipts → Type 0
 Through whole rest before now old new =
-    (some : List Receipt) × (receipts_of new ≡ receipts_of old ++ some)
+    (some : List Receipt) × ((earlier : List Receipt) → AreReceipts old earlier → AreReceipts new (earlier ++ some))
     × ((later : List Receipt) (after : DeskSeen) → rest now later after → whole before (some ++ later) after)
 
-pub begun : (whole : Receiving) (desk : DeskSeen) (old : List code.Receipt) → Through whole whole desk desk old old
-begun whole desk old = ([], sym (append-nil (receipts_of old)), λ later after h. h)
+pub begun : (whole : Receiving) (desk : DeskSeen) (old : Receipts) → Through whole whole desk desk old old
+begun whole desk old = ([], λ earlier h. subst (AreReceipts old) (sym (append-nil earlier)) h, λ later after h. h)
 
 -- some more is received
-pub goes_on : (whole rest rest' : Receiving) (before now now' : DeskSeen) (old new new' : List code.Receipt) (first : List Receipt) → receipts_of new' ≡ receipts_of new ++ first
+pub goes_on : (whole rest rest' : Receiving) (before now now' : DeskSeen) (old new new' : Receipts) (first : List Receipt) → ((earlier : List Receipt) → AreReceipts new earlier → AreReceipts new' (earlier ++ first))
     → ((later : List Receipt) (after : DeskSeen) → rest' now' later after → rest now (first ++ later) after) → Through whole rest before now old new → Through whole rest' before now' old new'
 goes_on whole rest rest' before now now' old new new' first more next (some, are, through) = (
   some ++ first,
-  more ∙ ap (λ (rs : List Receipt). rs ++ first) are ∙ append_assoc (receipts_of old) some first,
+  λ earlier h. subst (AreReceipts new') (append_assoc earlier some first) (more (earlier ++ some) (are earlier h)),
   λ later after h. subst (λ (rs : List Receipt). whole before rs after) (sym (append_assoc some first later)) (through (first ++ later) after (next later after h)),
 )
 
 -- nothing is left
-pub ends : (whole rest : Receiving) (before now : DeskSeen) (old new : List code.Receipt) → rest now [] now → Through whole rest before now old new → Adds whole before now old new
+pub ends : (whole rest : Receiving) (before now : DeskSeen) (old new : Receipts) → rest now [] now → Through whole rest before now old new → Adds whole before now old new
 ends whole rest before now old new none (some, are, through) =
     (some, subst (λ (rs : List Receipt). whole before rs now) (append-nil some) (through [] now none), are)
 
--- one more receipt
-pub pushed : (old new : List code.Receipt) (one : code.Receipt) → new ≡ old ++ one ∷ [] → receipts_of new ≡ receipts_of old ++ receipt_of one ∷ []
-pushed old new one is = ap receipts_of is ∙ map-append receipt_of old (one ∷ [])
+-- what follows from what a call does, too, if it does not fail
+pub then_too : {A E P Q : Type 0} (result : Result A E) → (P → Q) → OnOk result P → OnOk result Q
+then_too (Ok x) more h = more h
+then_too (Err e) more h = tt
+
+-- ---- one more receipt
+
+-- there are no more receipts than bytes of their lines
+few : (receipts : List Receipt) → length receipts ≤ length (flat_map (λ r. line (receipt_text r)) receipts)
+few [] = omega arith
+few (receipt ∷ receipts) =
+    let less = few receipts in
+    let one = length-append (receipt_text receipt) (10 ∷ []) in
+    let all = length-append (line (receipt_text receipt)) (flat_map (λ r. line (receipt_text r)) receipts) in
+    omega (arith, less, one, all)
+
+one_more : {A : Type 0} (f : Receipt → List A) (xs more : List A) (before : List Receipt) (receipt : Receipt) → more ≡ xs ++ f receipt → xs ≡ flat_map f before → more ≡ flat_map f (before ++ receipt ∷ [])
+one_more f xs more before receipt is h = is ∙ ap (λ ys. ys ++ f receipt) h ∙ ap (λ ys. flat_map f before ++ ys) (sym (append-nil (f receipt))) ∙ sym (flat_map-append f before (receipt ∷ []))
+
+one_counted : (p : Receipt → Bool) (n m long : ℕ) (before : List Receipt) (receipt : Receipt) → length before < long → long < 2 ^ 64 → (n + 1 < 2 ^ 64 → m ≡ n + cond (p receipt) 1 0) → n ≡ count_by p before → m ≡ count_by p (before ++ receipt ∷ [])
+one_counted p n m long before receipt less fits is h =
+    let few = count_by-le-length p before in
+    let more = sum_by-append (λ r. cond (p r) 1 0) before (receipt ∷ []) in
+    let now = is (omega (arith, less, fits, few, h)) in
+    omega (arith, more, now, h)
+
+-- what is printed and kept of one more receipt
+pub with_one : (old new : Receipts) (before : List Receipt) (receipt : Receipt) → length new.lines.items < 2 ^ 64
+    → new.lines.items ≡ old.lines.items ++ line (receipt_text receipt) → new.texts.items ≡ old.texts.items ++ refused_text receipt
+    → (old.counts.taken + 1 < 2 ^ 64 → new.counts.taken ≡ old.counts.taken + cond (is_taken receipt) 1 0)
+    → (old.counts.repeated + 1 < 2 ^ 64 → new.counts.repeated ≡ old.counts.repeated + cond (is_repeated receipt) 1 0)
+    → (old.counts.refused + 1 < 2 ^ 64 → new.counts.refused ≡ old.counts.refused + cond (is_refused receipt) 1 0)
+    → AreReceipts old before → AreReceipts new (before ++ receipt ∷ [])
+with_one old new before receipt fits lines texts taken repeated refused h =
+    let less : length before < length new.lines.items =
+    let few = few before in
+    let was = ap length h.lines in
+    let now = ap length lines ∙ length-append old.lines.items (line (receipt_text receipt)) in
+    let one = length-append (receipt_text receipt) (10 ∷ []) in
+    omega (arith, few, was, now, one) in
+    record {
+      lines = one_more (λ r. line (receipt_text r)) old.lines.items new.lines.items before receipt lines h.lines;
+      texts = one_more refused_text old.texts.items new.texts.items before receipt texts h.texts;
+      taken = one_counted is_taken old.counts.taken new.counts.taken (length new.lines.items) before receipt less fits taken h.taken;
+      repeated = one_counted is_repeated old.counts.repeated new.counts.repeated (length new.lines.items) before receipt less fits repeated h.repeated;
+      refused = one_counted is_refused old.counts.refused new.counts.refused (length new.lines.items) before receipt less fits refused h.refused;
+    }
 
 -- ---- texts
 
-pub next_text : (file : Text) (left rest : List MailText) (text : MailText) (now now' : DeskSeen) (receipt : Receipt) → left ≡ text ∷ rest → Tries file now text receipt now'
+next_text : (file : Text) (left rest : List MailText) (text : MailText) (now now' : DeskSeen) (receipt : Receipt) → left ≡ text ∷ rest → Tries file now text receipt now'
     → (later : List Receipt) (after : DeskSeen) → TriesEach file now' rest later after → TriesEach file now left ((receipt ∷ []) ++ later) after
 next_text file left rest text now now' receipt is tries later after others =
     subst (λ (ts : List MailText). TriesEach file now ts (receipt ∷ later) after) (sym is) (receipt, later, now', tries, others, refl)
+
+-- the next text is tried, and its receipt is added
+pub text_tried : (file : Text) (all left rest : List MailText) (text : MailText) (before now now' : DeskSeen) (start old new : Receipts) (receipt : Receipt) → left ≡ text ∷ rest → Tries file now text receipt now' → AddsOne receipt old new
+    → Through (λ b some a. TriesEach file b all some a) (λ b some a. TriesEach file b left some a) before now start old → Through (λ b some a. TriesEach file b all some a) (λ b some a. TriesEach file b rest some a) before now' start new
+text_tried file all left rest text before now now' start old new receipt is tries added through =
+    goes_on (λ b some a. TriesEach file b all some a) (λ b some a. TriesEach file b left some a) (λ b some a. TriesEach file b rest some a) before now now' start old new (receipt ∷ []) added
+    (next_text file left rest text now now' receipt is tries) through
 
 -- ---- files
 
@@ -54,7 +109,7 @@ pub next_file : (files : Option Files) (name : Text) (left rest : List Text) (no
 next_file files name left rest now now' first is received later after others =
     subst (λ (names : List Text). ReceivesEach files names now (first ++ later) after) (sym is) (first, later, now', received, others, refl)
 
-pub file_received : (files others : Option Files) (whole : Receiving) (name : Text) (left rest : List Text) (before now now' : DeskSeen) (start old new : List code.Receipt) → Adds (ReceivesFile others name) now now' old new
+pub file_received : (files others : Option Files) (whole : Receiving) (name : Text) (left rest : List Text) (before now now' : DeskSeen) (start old new : Receipts) → Adds (ReceivesFile others name) now now' old new
     → others ≡ files → left ≡ name ∷ rest → Through whole (ReceivesEach files left) before now start old → Through whole (ReceivesEach files rest) before now' start new
 file_received files others whole name left rest before now now' start old new (first, received, more) same is through =
     goes_on whole (ReceivesEach files left) (ReceivesEach files rest) before now now' start old new first more

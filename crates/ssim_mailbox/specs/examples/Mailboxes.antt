@@ -46,10 +46,10 @@ four_are_found = texts_in mixed_lines ≡
     ∷ record { line = 10; bytes = bytes_of (codes "ASM" ∷ codes "LT" ∷ codes "HAMOPZ7" ∷ []) }
     ∷ record { line = 14; bytes = bytes_of (codes "SSM" ∷ []) } ∷ []
 
--- Two texts with free text. An empty line between `//` and SI changes nothing, and one after SI ends
--- the text: the signature of the mail, with lines of its own between empty ones, is a text of its
--- own. The second free text has no empty line, so that NNNN ends it. The line after NNNN begins with
--- SI, but there is no `//` above it in a text of its own.
+-- Two texts with free text. An empty line between `//` and SI changes nothing, and one after SI
+-- ends the text: the signature of the mail, with an empty line in it, is a text of its own. The
+-- second free text has no empty line, so that NNNN ends it. The line after NNNN begins with SI, but
+-- there is no `//` above it in a text of its own.
 abbrev pub free_texts : List ℕ
 free_texts = bytes_of (codes "SSM" ∷ [] ∷ codes "CNL" ∷ codes "//" ∷ [] ∷ codes "SI CHARTER"
     ∷ codes "SEE MEMO" ∷ codes " " ∷ codes "BEST REGARDS" ∷ [] ∷ codes "FDHOPZ7" ∷ [] ∷ codes "ASM"

@@ -3,7 +3,8 @@ use Rattle.std.specs.Prelude.{◌≡◌, ℕ, Bool, false, List, [], ◌∷◌}
 use Rattle.ssim_mailbox.specs.declared.role.Ahead.{Ahead}
 use Rattle.ssim_mailbox.specs.declared.role.Role.{Role}
 use Rattle.ssim_mailbox.specs.Lines.{MailLine, lines_from, shown}
-use Rattle.ssim_mailbox.specs.Roles.{begin_message, begin_with_addresses, begin_with_origin, lead_to_message, role_of}
+use Rattle.ssim_mailbox.specs.Roles.{begin_message, begin_with_addresses, begin_with_origin}
+use Rattle.ssim_mailbox.specs.Roles.{lead_to_message, role_of}
 
 -- what these lines begin with
 pub record IsAhead (ahead : Ahead) (lines : List MailLine) : Type 0 where
@@ -14,7 +15,8 @@ pub record IsAhead (ahead : Ahead) (lines : List MailLine) : Type 0 where
 
 -- the same of the lines that have these bytes, whatever is above them
 abbrev pub ArePiecesAhead : Ahead → List (List ℕ) → Type 0
-ArePiecesAhead ahead pieces = (n : ℕ) (under_dot : Bool) → IsAhead ahead (lines_from n under_dot pieces)
+ArePiecesAhead ahead pieces =
+    (n : ℕ) (under_dot : Bool) → IsAhead ahead (lines_from n under_dot pieces)
 
 -- a line of these bytes that is not under a dot
 abbrev pub plain_line : ℕ → List ℕ → MailLine
@@ -26,5 +28,6 @@ abbrev pub AreRoles : List Role → List (List ℕ) → Type 0
 AreRoles roles [] = Unit {0}
 AreRoles [] (piece ∷ pieces) = ⊥
 AreRoles (role ∷ roles) (piece ∷ pieces) =
-    ((n m : ℕ) (under_dot : Bool) → role ≡ role_of (plain_line n piece) (lines_from m under_dot pieces))
+    ((n m : ℕ) (under_dot : Bool)
+    → role ≡ role_of (plain_line n piece) (lines_from m under_dot pieces))
     × AreRoles roles pieces

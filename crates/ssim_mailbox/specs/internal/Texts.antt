@@ -1,5 +1,6 @@
 -- Texts of which one has begun.
-use Rattle.std.specs.Prelude.{◌≡◌, ℕ, Bool, false, true, List, [], ◌∷◌, ◌++◌, ◌≤◌, drop, length, take}
+use Rattle.std.specs.Prelude.{◌≡◌, ℕ, Bool, false, true, List, [], ◌∷◌, ◌++◌, ◌≤◌, drop, length}
+use Rattle.std.specs.Prelude.{take}
 use Rattle.ssim_mailbox.specs.declared.draft.Draft.{Draft}
 use Rattle.ssim_mailbox.specs.declared.free_text.FreeText.{FreeText}
 use Rattle.ssim_mailbox.specs.declared.line.Lines.{Lines}

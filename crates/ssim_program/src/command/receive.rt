@@ -20,7 +20,6 @@ ghost use Rattle.ssim_program.specs.declared.content_kind.ContentKind.TheVariant
 ghost use Rattle.ssim_program.specs.declared.refusal.Refusal.TheVariants as refused;
 
 use crate::command::receive::mailboxes::receive_files;
-use crate::command::receive::receipt::{lines_of, refused_texts};
 use crate::content_kind::ContentKind;
 use crate::desk_file::{keep, open_intake};
 use crate::hold::{hold, keep_content};
@@ -57,9 +56,7 @@ fn received_by<S: Store>(
     ensures counted { S.failures store.new ≡ S.failures store.old }
 {
     let mut desk = open_intake(alloc, file, store)?;
-    let receipts = receive_files(alloc, &mut desk, names, store)?;
-    let lines = lines_of(alloc, &receipts)?;
-    let refused = refused_texts(alloc, &receipts)?;
+    let (lines, refused) = receive_files(alloc, &mut desk, names, store)?.finish()?;
     let desk = desk.finish()?;
     // No effect at run time. The proof reads from this use that the messages are in order.
     let _ = desk.held();

@@ -4,10 +4,10 @@ ghost use Rattle.std.specs.Prelude.{◌≡◌, IfNone, IfOk, IfSome, OnOk, map};
 ghost use Rattle.ssim_mailbox.specs.Mail.{mail_of};
 ghost use Rattle.ssim_mailbox.specs.Texts.{texts_in};
 ghost use Rattle.ssim_program.specs.Made.{HasFile, IsMissing};
-ghost use Rattle.ssim_program.specs.Receiving.{ReceivesEach, ReceivesFile, Tries, TriesEach};
-ghost use Rattle.ssim_program.specs.internal.Receive.{Adds, receipt_of, receipts_of};
+ghost use Rattle.ssim_program.specs.Receiving.{ReceivesFile, Tries, TriesEach};
+ghost use Rattle.ssim_program.specs.internal.Receive.{Adds, HasReceipts, receipt_of};
 
-use crate::command::receive::receipt::Receipt;
+use crate::command::receive::receipt::{Receipt, Receipts};
 use crate::data_set::LIMIT;
 use crate::store::{Store, StoreFault};
 use ssim_desk::Intake;
@@ -51,59 +51,56 @@ fn try_text<'n>(desk: &mut Intake, file: &'n str, text: Text) -> Receipt<'n>
 }
 
 /// Tries the texts of the mailbox in a file, one after another.
-fn try_texts<'n>(
+fn try_texts(
     alloc: Global,
     desk: &mut Intake,
-    file: &'n str,
+    file: &str,
     mailbox: &[u8],
-    receipts: &mut Vec<Receipt<'n>>,
+    receipts: &mut Receipts,
 ) -> Result<(), Memory>
     ensures { OnOk result (Adds (λ before some after. TriesEach file.now before
         (texts_in mailbox.now) some after)
-        desk.old desk.new receipts.old.items receipts.new.items) }
+        desk.old desk.new receipts.old receipts.new) }
 {
     let mut texts = Texts::new(alloc, mailbox)?;
     while let Some(text) = texts.next_text(alloc)? {
-        receipts.push(try_text(desk, file, text))?;
+        receipts.push(alloc, try_text(desk, file, text))?;
     }
     Ok(())
 }
 
 /// Tries the texts of the mailbox in the file of this name.
-fn receive_file<'n, S: Store>(
+fn receive_file<S: Store>(
     alloc: Global,
     desk: &mut Intake,
-    file: &'n str,
+    file: &str,
     store: &mut S,
-    receipts: &mut Vec<Receipt<'n>>,
+    receipts: &mut Receipts,
 ) -> Result<(), Memory>
     ensures received { OnOk result (Adds (ReceivesFile (S.files store.old) file.now)
-        desk.old desk.new receipts.old.items receipts.new.items) }
+        desk.old desk.new receipts.old receipts.new) }
     ensures same { S.files store.new ≡ S.files store.old }
     ensures counted { S.failures store.new ≡ S.failures store.old }
 {
     match load_mailbox(alloc, file, store)? {
         Some(mailbox) => try_texts(alloc, desk, file, &mailbox, receipts),
-        None => {
-            receipts.push(Receipt::Unread { file })?;
-            Ok(())
-        }
+        None => receipts.push(alloc, Receipt::Unread { file }),
     }
 }
 
 /// Tries the texts of the mailboxes in the files of these names, in order.
-pub(crate) fn receive_files<'n, S: Store>(
+pub(crate) fn receive_files<S: Store>(
     alloc: Global,
     desk: &mut Intake,
-    names: &[&'n str],
+    names: &[&str],
     store: &mut S,
-) -> Result<Vec<Receipt<'n>>, Memory>
-    ensures received { IfOk result (λ receipts. ReceivesEach (S.files store.old)
-        (map (λ t. t.now) names.now) desk.old (receipts_of receipts.items) desk.new) }
+) -> Result<Receipts, Memory>
+    ensures received { IfOk result (λ receipts. HasReceipts (S.files store.old)
+        (map (λ t. t.now) names.now) desk.old receipts desk.new) }
     ensures same { S.files store.new ≡ S.files store.old }
     ensures counted { S.failures store.new ≡ S.failures store.old }
 {
-    let mut receipts = Vec::new(alloc);
+    let mut receipts = Receipts::new(alloc);
     for name in names {
         receive_file(alloc, desk, *name, store, &mut receipts)?;
     }

@@ -1,12 +1,11 @@
 //! What became of the texts of mailbox files, the lines that say so, and the refused texts.
 
-ghost use Rattle.std.specs.Prelude.{◌≡◌, ◌++◌, IfOk, OnOk, Some};
-ghost use Rattle.std.specs.List.{count_by};
+ghost use Rattle.std.specs.Prelude.{◌≡◌, ◌<◌, ◌+◌, ◌^◌, [], ◌++◌, IfOk, OnOk, Some};
+ghost use Rattle.std.specs.Prelude.{if◌then◌else◌};
 ghost use Rattle.ssim_base.specs.Export.{line};
-ghost use Rattle.ssim_program.specs.Receiving.{beginning_text, total_text, is_refused, is_repeated};
-ghost use Rattle.ssim_program.specs.Receiving.{is_taken, receipt_lines, receipt_text, refused_at};
-ghost use Rattle.ssim_program.specs.Receiving.{refused_text, refused_texts};
-ghost use Rattle.ssim_program.specs.internal.Receive.{receipt_of, receipts_of};
+ghost use Rattle.ssim_program.specs.Receiving.{beginning_text, is_refused, is_repeated, is_taken};
+ghost use Rattle.ssim_program.specs.Receiving.{receipt_text, refused_at, refused_text, total_text};
+ghost use Rattle.ssim_program.specs.internal.Receive.{AddsOne, AreReceipts, HaveLines, receipt_of};
 
 use crate::command::take::printed;
 use crate::print::name::printed_name;
@@ -179,52 +178,92 @@ impl fmt::Display for Counts {
     }
 }
 
-/// The counts of receipts.
-fn count_of(receipts: &[Receipt]) -> Counts
-    ensures taken { result.taken ≡ count_by is_taken (receipts_of receipts.now) }
-    ensures repeated { result.repeated ≡ count_by is_repeated (receipts_of receipts.now) }
-    ensures refused { result.refused ≡ count_by is_refused (receipts_of receipts.now) }
+/// A count with one more, if there is one more, as far as numbers go.
+fn counted(count: usize, is: bool) -> usize
+    ensures { count + 1 < 2 ^ 64 → result ≡ count + (if is then 1 else 0) }
 {
-    Counts {
-        taken: receipts.iter().filter(|r| r.is_taken()).count(),
-        repeated: receipts.iter().filter(|r| r.is_repeated()).count(),
-        refused: receipts.iter().filter(|r| r.is_refused()).count(),
-    }
-}
-
-/// The lines of receipts, and the line that counts them.
-pub(crate) fn lines_of(alloc: Global, receipts: &[Receipt]) -> Result<Vec<u8>, Memory>
-    ensures { IfOk result (λ lines. lines.items ≡ receipt_lines (receipts_of receipts.now)) }
-{
-    let mut lines = Vec::new(alloc);
-    for receipt in receipts {
-        push_line(alloc, &mut lines, receipt)?;
-    }
-    add_line(&mut lines, &count_of(receipts))?;
-    Ok(lines)
+    count.saturating_add(is as usize)
 }
 
 // ---- the refused texts
 
+/// Adds bytes. The first are moved, so that a large text is not in memory twice.
+fn append(texts: &mut Vec<u8>, bytes: Vec<u8>) -> Result<(), Memory>
+    ensures { OnOk result (texts.new.items ≡ texts.old.items ++ bytes.items) }
+{
+    if texts.is_empty() {
+        *texts = bytes;
+    } else {
+        texts.extend_from_slice(&bytes)?;
+    }
+    Ok(())
+}
+
 /// Adds the text of a receipt, if it was refused, and a line `NNNN`.
-fn push_refused(texts: &mut Vec<u8>, receipt: &Receipt) -> Result<(), Memory>
+fn push_refused(texts: &mut Vec<u8>, receipt: Receipt) -> Result<(), Memory>
     ensures { OnOk result
-        (texts.new.items ≡ texts.old.items ++ refused_text (receipt_of receipt.now)) }
+        (texts.new.items ≡ texts.old.items ++ refused_text (receipt_of receipt.entry)) }
 {
     if let Receipt::Refused { text, .. } = receipt {
-        texts.extend_from_slice(&text.bytes)?;
+        append(texts, text.bytes)?;
         texts.extend_from_slice(b"NNNN\n")?;
     }
     Ok(())
 }
 
-/// The refused texts, each of which NNNN ends.
-pub(crate) fn refused_texts(alloc: Global, receipts: &[Receipt]) -> Result<Vec<u8>, Memory>
-    ensures { IfOk result (λ texts. texts.items ≡ refused_texts (receipts_of receipts.now)) }
-{
-    let mut texts = Vec::new(alloc);
-    for receipt in receipts {
-        push_refused(&mut texts, receipt)?;
+// ---- all receipts
+
+/// What is printed and kept of the receipts so far. The receipts themselves are not kept.
+#[derive(Drop)]
+pub(crate) struct Receipts {
+    /// The line of each.
+    lines: Vec<u8>,
+    /// The refused texts, each of which NNNN ends.
+    texts: Vec<u8>,
+    /// How many were taken, repeated and refused.
+    counts: Counts,
+}
+
+impl Receipts {
+    /// No receipts.
+    pub(crate) fn new(alloc: Global) -> Receipts
+        ensures { AreReceipts result [] }
+    {
+        Receipts {
+            lines: Vec::new(alloc),
+            texts: Vec::new(alloc),
+            counts: Counts {
+                taken: 0,
+                repeated: 0,
+                refused: 0,
+            },
+        }
     }
-    Ok(texts)
+
+    /// Adds a receipt.
+    pub(crate) fn push(&mut self, alloc: Global, receipt: Receipt) -> Result<(), Memory>
+        ensures { OnOk result (AddsOne (receipt_of receipt.entry) self.old self.new) }
+    {
+        let Counts {
+            taken,
+            repeated,
+            refused,
+        } = self.counts;
+        self.counts = Counts {
+            taken: counted(taken, receipt.is_taken()),
+            repeated: counted(repeated, receipt.is_repeated()),
+            refused: counted(refused, receipt.is_refused()),
+        };
+        push_line(alloc, &mut self.lines, &receipt)?;
+        push_refused(&mut self.texts, receipt)
+    }
+
+    /// The lines of the receipts and the line that counts them, and the refused texts.
+    pub(crate) fn finish(self) -> Result<(Vec<u8>, Vec<u8>), Memory>
+        ensures { IfOk result (λ r. HaveLines self r.0.items r.1.items) }
+    {
+        let mut lines = self.lines;
+        add_line(&mut lines, &self.counts)?;
+        Ok((lines, self.texts))
+    }
 }

@@ -1,5 +1,5 @@
 -- The texts are tried, the lines are printed, and the files are kept.
-use Rattle.std.proofs.Common.{◌≡◌, ◌∙◌, Err, List, ℕ, Option, map, option_map, rules, subst}
+use Rattle.std.proofs.Common.{◌≡◌, Err, List, ℕ, map, option_map, rules, subst}
 use Rattle.ssim_program.specs.internal.Print.{Prints}
 use Rattle.ssim_program.specs.print.Paper.{Grows}
 use Rattle.ssim_program.proofs.Receiving.{kept_or_not, not_printed, not_received}

@@ -1,24 +1,25 @@
 -- What the intake holds in the end is what the desk has received.
-use Rattle.std.proofs.Common.{◌≡◌, List, Option, map, rules, subst, sym}
+use Rattle.std.proofs.Common.{◌≡◌, List, Option, map, subst, sym}
 use Rattle.ssim_held.specs.Entries.{AreRising, DeskSeen}
 use Rattle.ssim_program.specs.Files.{Files}
 use Rattle.ssim_program.specs.Receiving.{ReceivesEach}
-use Rattle.ssim_program.specs.internal.Receive.{receipts_of}
+use Rattle.ssim_program.specs.internal.Receive.{HasReceipts}
 use Rattle.ssim_program.proofs.command.receive.received_by.Goals as goal
 
 pub returns-clause-ok : goal.returns-clause-ok
 returns-clause-ok g c =
     let names = map (λ t. t.now) c.args.names.now in
     let before = c.in_ok-desk.desk in
-    let receipts = receipts_of c.in_ok-receipts.receipts.items in
+    let has = c.in_ok-receive_files.ensures.received in
+    let lines = c.in_ok-lines.ensures has.0 has.2 in
     record {
       before = before;
       reads = c.in_ok-desk.ensures.read;
-      receipts = receipts;
+      receipts = has.0;
       received =
-          subst (λ (d : DeskSeen). ReceivesEach (g.S.Store.files c.args.store.now) names before receipts d) (sym c.in_ok-desk-2.ensures)
-          (subst (λ (f : Option Files). ReceivesEach f names before receipts c.receive_files.new.desk) c.open_intake.ensures.same c.in_ok-receipts.ensures.received);
+          subst (λ (d : DeskSeen). ReceivesEach (g.S.Store.files c.args.store.now) names before has.0 d) (sym c.in_ok-desk-2.ensures)
+          (subst (λ (f : Option Files). ReceivesEach f names before has.0 c.receive_files.new.desk) c.open_intake.ensures.same has.1);
       rising = subst AreRising c.held.ensures.value c.held.ensures.rising;
-      lines_are = search rules;
-      texts_are = search rules;
+      lines_are = lines.0;
+      texts_are = lines.1;
     }

@@ -7,7 +7,7 @@ use Rattle.ssim_program.proofs.command.receive.mailboxes.try_texts.Given as goal
 
 abbrev pub invariant-loop-texts : goal.invariant-loop-texts
 invariant-loop-texts l =
-    Through (λ before some after. TriesEach l.fn.file before (texts_in l.mailbox) some after) (λ before some after. TriesEach l.fn.file before l.texts some after) l.fn.desk l.desk l.fn.receipts.items l.receipts.items
+    Through (λ before some after. TriesEach l.fn.file before (texts_in l.mailbox) some after) (λ before some after. TriesEach l.fn.file before l.texts some after) l.fn.desk l.desk l.fn.receipts l.receipts
 
 abbrev pub decreases-loop-texts : goal.decreases-loop-texts
 decreases-loop-texts l = length l.texts

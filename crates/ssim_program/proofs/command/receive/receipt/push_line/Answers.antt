@@ -1,5 +1,5 @@
 -- The line of a file that cannot be read is that of its refusal.
-use Rattle.std.proofs.Common.{◌≡◌, ◌∙◌, ◌++◌, List, ℕ, OnOk, subst, sym, ap}
+use Rattle.std.proofs.Common.{◌≡◌, ◌++◌, List, ℕ, OnOk, subst, sym}
 use Rattle.ssim_base.specs.Export.{line}
 use Rattle.ssim_program.specs.Receiving.{receipt_text}
 use Rattle.ssim_program.specs.internal.Receive.{receipt_of}
