@@ -1,5 +1,5 @@
 -- What the intake holds in the end is what the desk has received.
-use Rattle.std.proofs.Common.{◌≡◌, List, Option, map, rules, subst, sym}
+use Rattle.std.proofs.Common.{Option, map, rules, subst, sym}
 use Rattle.ssim_held.specs.Entries.{AreRising, DeskSeen}
 use Rattle.ssim_program.specs.Files.{Files}
 use Rattle.ssim_program.specs.Receiving.{ReceivesEach}
