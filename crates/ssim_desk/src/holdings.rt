@@ -139,6 +139,8 @@ impl Holdings {
 
     /// Takes a text: holds its message if it is new. Returns the message's reference, too. The
     /// errors are those of `Desk::take`.
+    ///
+    /// It moves all messages of greater references. [`crate::Intake`] takes many texts in any order.
     pub fn take(&mut self, text: &[u8]) -> Result<(Took, Reference), DeskFault>
         ensures takes { Takes (state_of self.old) text.now (took_answer result)
             (map_of self.new.held) }

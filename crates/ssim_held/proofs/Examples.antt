@@ -1,5 +1,6 @@
 -- Small examples of references and desk files, checked by computation.
 use Rattle.std.specs.Prelude.{◌≡◌, ℕ, ◌-◌, ◌^◌, true, false, List, [], ◌∷◌, ◌++◌, length, codes, refl}
+use Rattle.std.proofs.Common.{arith}
 use Rattle.std.specs.Fmt.{digits}
 use Rattle.std.specs.declared.cmp.Ordering.TheVariants.{Less, Equal}
 use Rattle.ssim_records.specs.declared.fault.RecordFault.TheVariants.{ReadFault, ReaderNeverEnds}
@@ -12,11 +13,37 @@ use Rattle.ssim_text.specs.declared.reference.Reference.{Reference}
 use Rattle.ssim_values.specs.Calendar.{day_of_month, month_of, year_of}
 use Rattle.ssim_values.specs.Day.{day_text}
 use Rattle.ssim_held.specs.File.{after_first_line, counted, row_line, rows_part, texts_part}
+use Rattle.ssim_held.specs.Entries.{Entry}
 use Rattle.ssim_held.specs.Held.{reference_cmp}
 use Rattle.ssim_held.specs.Opening.{FailsAs, NeverEnds}
+use Rattle.ssim_held.specs.Pages.{IsGap, all_of, position, position_on}
 use Rattle.ssim_held.specs.internal.DeskFileReader.{first_line, is_number}
 use Rattle.ssim_held.specs.declared.fault.DeskFault.TheVariants.{Text, Read}
 use Rattle.ssim_held.specs.declared.desk_file_reader.version.FileVersion.TheVariants.{One, Two}
+
+-- ---- messages on pages
+
+module _ (a b c : Entry) where
+  -- two pages, of two messages and of one
+  abbrev pages : List (List Entry)
+  pages = (a ∷ b ∷ []) ∷ (c ∷ []) ∷ []
+
+  in_order : all_of pages ≡ a ∷ b ∷ c ∷ []
+  in_order = refl
+
+  -- two messages come before the first of the second page
+  second_page : position_on pages 1 0 ≡ 2
+  second_page = refl
+
+  -- a place at the end of a page is that at the start of the next one
+  between : position pages (record { page = 0; at = 2 }) ≡ position pages (record { page = 1; at = 0 })
+  between = refl
+
+  gap_at_the_end : IsGap pages (record { page = 1; at = 1 })
+  gap_at_the_end = omega arith
+
+  no_gap : IsGap pages (record { page = 1; at = 2 }) → ⊥
+  no_gap le = absurd (omega (arith, le))
 
 -- ---- the order of references
 

@@ -1,5 +1,5 @@
 -- A list of messages that is divided into pages: where a place is in the list, and what a change of one page makes of it.
-use Rattle.std.proofs.Common.{◌≡◌, ◌≢◌, ◌⊎◌, inl, inr, ℕ, zero, suc, ◌+◌, ◌-◌, ◌<◌, ◌≤◌, List, [], ◌∷◌, ◌++◌, length, take, drop, All, Option, None, Some, IfSome, MatchOption, Result, Ok, Err, OnOk, OnErr, set, slice_get, slice_index_or, refl, sym, ap, subst, ◌∙◌, append_assoc, arith, length-append}
+use Rattle.std.proofs.Common.{◌≡◌, ◌≢◌, ◌⊎◌, inl, inr, ℕ, zero, suc, ◌+◌, ◌-◌, ◌<◌, ◌≤◌, List, [], ◌∷◌, ◌++◌, length, take, drop, All, Option, None, Some, IfSome, MatchOption, Result, Ok, Err, OnOk, OnErr, set, slice_get, slice_index_or, refl, sym, ap, subst, ◌∙◌, arith, length-append}
 use Rattle.std.specs.Prelude.{T}
 use Rattle.std.specs.List.{insert, remove}
 use Rattle.std.specs.declared.cmp.Ordering.{Ordering}
@@ -18,7 +18,7 @@ use Rattle.ssim_held.specs.Pages.{IsFilled, IsHeldOn, all_of, position, position
 use Rattle.ssim_held.specs.declared.pages.Place.{Place}
 use Rattle.ssim_held.proofs.Entries.{T-from_true, and_left, and_right, both, flips, held_at, true-from_T}
 use Rattle.ssim_held.proofs.References.{reference_apart, reference_total}
-use Rattle.ssim_held.proofs.Searching.{at_index, index_of_get, narrow_down, no_more, rise}
+use Rattle.ssim_held.proofs.Searching.{at_index, index_of_get, narrow_down, rise}
 
 -- ---- positions
 

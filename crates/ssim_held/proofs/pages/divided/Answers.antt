@@ -1,6 +1,5 @@
 -- A full page is divided into its halves.
-use Rattle.std.proofs.Common.{◌≡◌, ◌∙◌, ◌<◌, ◌≤◌, ℕ, List, Some, length, slice_get, slice_index_or, arith, sym, ap}
-use Rattle.ssim_held.specs.Entries.{Entry}
+use Rattle.std.proofs.Common.{arith}
 use Rattle.ssim_held.proofs.OnPages.{at_first, at_later, both_filled, is_long, on_first, on_later, same_messages}
 use Rattle.ssim_held.proofs.pages.divided.Goals as goal
 

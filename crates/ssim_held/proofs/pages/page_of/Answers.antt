@@ -1,8 +1,6 @@
 -- The first message of the page in the middle says in which half the reference belongs.
-use Rattle.std.proofs.Common.{◌≡◌, ◌∙◌, ◌+◌, ◌-◌, ◌/◌, ◌<◌, List, Some, slice_get, length, arith, refl, sym, ap, subst}
+use Rattle.std.proofs.Common.{◌≡◌, ◌∙◌, ◌+◌, ◌-◌, ◌/◌, ◌<◌, Some, slice_get, length, arith, sym, ap}
 use Rattle.std.proofs.lemmas.Bool.{false≢true}
-use Rattle.ssim_held.specs.Entries.{Entry}
-use Rattle.ssim_held.specs.Ordered.{Belongs}
 use Rattle.ssim_held.specs.Pages.{all_of}
 use Rattle.ssim_held.proofs.OnPages.{before_page, from_page, position_end, position_zero}
 use Rattle.ssim_held.proofs.Searching.{at_index, no_more}

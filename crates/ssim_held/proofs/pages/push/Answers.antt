@@ -1,5 +1,5 @@
 -- The last page has one more message.
-use Rattle.std.proofs.Common.{rules, ◌≡◌, ◌∙◌, ◌-◌, ◌<◌, suc, List, Some, length, slice_get, slice_set, arith, sym, ap}
+use Rattle.std.proofs.Common.{rules, ◌≡◌, ◌∙◌, ◌-◌, List, Some, length, slice_get, slice_set, arith, sym, ap}
 use Rattle.std.proofs.lemmas.Result.{on_ok_weaker}
 use Rattle.std.specs.List.{insert}
 use Rattle.ssim_held.specs.Entries.{Entry}

@@ -2,7 +2,7 @@
 use Rattle.std.proofs.Common.{◌≡◌, ◌∙◌, suc, None, Some, drop, take, is_some, sym, ap, subst}
 use Rattle.std.proofs.lemmas.List.Elements.{All-append, All-drop, All-take}
 use Rattle.std.specs.FinMap.{contains_key, get, remove}
-use Rattle.ssim_held.specs.Entries.{AreEntries, DeskSeen, Entry, IsEntry, map_of}
+use Rattle.ssim_held.specs.Entries.{AreEntries, DeskSeen, IsEntry, map_of}
 use Rattle.ssim_held.specs.Pages.{all_of, position}
 use Rattle.ssim_held.proofs.Entries.{held_at, not_held}
 use Rattle.ssim_held.proofs.Withdrawing.{map_of_without, rising_without, without_absent}

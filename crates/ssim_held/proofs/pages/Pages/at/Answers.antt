@@ -1,8 +1,8 @@
 -- The message on its page is that of the list.
 use Rattle.std.proofs.Common.{◌≡◌, ◌∙◌, ◌<◌, List, Some, length, slice_get, sym, ap, subst}
-use Rattle.std.proofs.lemmas.Option.{get_or_from_slice_get, slice_get_within}
+use Rattle.std.proofs.lemmas.Option.{get_or_from_slice_get}
 use Rattle.ssim_held.specs.Entries.{Entry}
-use Rattle.ssim_held.proofs.OnPages.{get_on, page_at, read_as}
+use Rattle.ssim_held.proofs.OnPages.{get_on}
 use Rattle.ssim_held.proofs.Searching.{at_index}
 use Rattle.ssim_held.proofs.pages.Pages.at.Goals as goal
 

@@ -1,5 +1,5 @@
 -- The reference is on the page on which it belongs, or in a gap there.
-use Rattle.std.proofs.Common.{◌≡◌, ◌∙◌, ◌+◌, ◌<◌, ◌≤◌, suc, List, [], Option, Some, length, slice_get, slice_index_or, MatchOption, arith, refl, sym, ap, subst}
+use Rattle.std.proofs.Common.{◌≡◌, ◌∙◌, ◌+◌, ◌<◌, ◌≤◌, suc, List, [], Option, length, MatchOption, arith, sym, subst}
 use Rattle.std.proofs.lemmas.Option.{slice_get_within}
 use Rattle.ssim_held.specs.Entries.{Entry}
 use Rattle.ssim_held.specs.Ordered.{Belongs}
