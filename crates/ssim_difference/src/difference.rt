@@ -3,11 +3,13 @@
 ghost use Rattle.std.specs.Prelude.{◌≡◌, IfOk};
 ghost use Rattle.ssim_difference.specs.Differences.{difference, no_difference, same_difference};
 ghost use Rattle.ssim_difference.specs.DifferenceLaws.{exact_difference};
+ghost use Rattle.ssim_difference.specs.DifferenceOrder.{difference-told_apart, difference_cmp, difference_cmp_total};
 
 use ssim_periods::Value;
 use ssim_schedule::Itinerary;
 use ssim_values::Memory;
 use std::alloc::Global;
+use std::cmp::Ordering;
 
 /// The old and the new itinerary of a flight on a date, if they differ; two empty itineraries if
 /// they are equal. An itinerary is empty if the flight does not fly.
@@ -37,6 +39,8 @@ impl Value for Difference {
 
     ghost alike = { same_difference };
 
+    ghost compared = { difference_cmp };
+
     fn empty() -> Self {
         Difference {
             old: Itinerary::empty(),
@@ -52,6 +56,10 @@ impl Value for Difference {
         self.old.same(&other.old) && self.new.same(&other.new)
     }
 
+    fn order(&self, other: &Self) -> Ordering {
+        self.old.order(&other.old).then(self.new.order(&other.new))
+    }
+
     fn copy(&self, alloc: Global) -> Result<Self, Memory> {
         Ok(Difference {
             old: self.old.copy(alloc)?,
@@ -60,4 +68,8 @@ impl Value for Difference {
     }
 
     ghost exact = { exact_difference };
+
+    ghost total = { difference_cmp_total };
+
+    ghost told_apart = { difference-told_apart };
 }

@@ -14,10 +14,12 @@ pub mod DoneLemmas
 pub mod EachLemmas
 pub mod GatherLemmas
 pub mod HeldCounts
+pub mod IndexLemmas
 pub mod JoinLemmas
 pub mod ListPieces
 pub mod MarkLemmas
 pub mod NumberLemmas
+pub mod NumberPeriods
 pub mod PartLemmas
 pub mod PartsLemmas
 pub mod PieceLaw

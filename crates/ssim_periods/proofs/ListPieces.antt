@@ -2,15 +2,16 @@
 -- and each value comes last once.
 use Rattle.std.proofs.Common.{◌≡◌, ◌≢◌, ℕ, zero, suc, ◌+◌, ◌-◌, ◌<◌, ◌≤◌, ◌||◌, Bool, true, false, if◌then◌else◌, nat_eq, List, [], ◌∷◌, ◌++◌, length, filter, map, take, drop, slice_index_or, refl, ap, subst, sym, ◌∙◌, arith, ◌⊎◌, inl, inr, IsTrue, ◌↔◌, append-nil, length-drop}
 use Rattle.std.proofs.Math.Bool.{or-false, or-true}
-use Rattle.std.specs.List.{All, flat_map, list_any}
+use Rattle.std.specs.List.{All, Contains, flat_map, list_any}
 use Rattle.std.specs.List.Sorted.{IsPermutation, IsNonDecreasingBy}
 use Rattle.std.proofs.Math.Path.{fun_ext}
 use Rattle.std.proofs.lemmas.List.{drop_more, take_more, take-append-drop}
 use Rattle.std.proofs.lemmas.Grind.{flat_map-append}
 use Rattle.std.proofs.lemmas.List.Elements.{filter-append}
+use Rattle.std.proofs.lemmas.List.Sorted.{All-permutation}
 use Rattle.std.proofs.lemmas.List.Folds.{list_any-append}
 use Rattle.ssim_values.specs.Period.{DayRange}
-use Rattle.ssim_periods.specs.internal.Apart.{value_in, given_on, given_cover, held_cover, is_held, mark_on, last_values, AreApart}
+use Rattle.ssim_periods.specs.internal.Apart.{value_in, given_on, given_cover, held_cover, is_held, mark_on, last_values, list_seen, AreApart}
 use Rattle.ssim_periods.specs.Calendar.{day_count, holds}
 use Rattle.ssim_periods.specs.Cover.{cover}
 use Rattle.ssim_periods.specs.Days.{each_day}
@@ -19,14 +20,14 @@ use Rattle.ssim_periods.proofs.ApartLemmas.{value_in-none}
 use Rattle.ssim_periods.proofs.CoverLemmas.{le_or_lt}
 use Rattle.ssim_periods.proofs.DayLemmas.{day_count-is, length-each_day, index-each_day, holds-Holds}
 use Rattle.ssim_periods.proofs.PieceLaw.{alike-self, alike-turned, has_value-at, has_value-past, held_on-append}
-use Rattle.ssim_periods.proofs.PieceOrder.{In}
+use Rattle.ssim_periods.proofs.PieceOrder.{In, held-moved, in-moved}
 use Rattle.ssim_periods.proofs.PiecesFound.{in-append, pieces-once}
 
 known : (b : Bool) → (b ≡ true) ⊎ (b ≡ false)
 known true = inl refl
 known false = inr refl
 
-not-alike : {V : Type 0} (alike : V → V → Bool) → ((x y : V) → IsTrue (alike x y) ↔ (x ≡ y)) → (v w : V) → v ≢ w → alike v w ≡ false
+pub not-alike : {V : Type 0} (alike : V → V → Bool) → ((x y : V) → IsTrue (alike x y) ↔ (x ≡ y)) → (v w : V) → v ≢ w → alike v w ≡ false
 not-alike alike exact v w h = elim (known (alike v w)) [ inl on ↦ absurd (h ((exact v w).0 on)) | inr off ↦ off ]
 
 -- ---- the period that holds a day
@@ -69,6 +70,33 @@ held-one {V} (y ∷ xs) x n once (inr i) h = by (holds y.0 n) once (held-one xs 
     by : (b : Bool) → length (if b then y.1 ∷ held_on xs n else held_on xs n) ≤ 1 → held_on xs n ≡ x.1 ∷ [] → (if b then y.1 ∷ held_on xs n else held_on xs n) ≡ x.1 ∷ []
     by true few one = let none = none-left (held_on xs n) y.1 few in cc
     by false few one = one
+
+-- the value of a day does not depend on the order of the periods
+value_in-moved : {V : Type 0} (d : V) (xs ys : List (DayRange × V)) (n : ℕ) → IsPermutation xs ys → length (held_on xs n) ≤ 1 → value_in d ys n ≡ value_in d xs n
+value_in-moved {V} d xs ys n moved once = by (found ys n)
+  where
+    few : length (held_on ys n) ≤ 1
+    few = let same = held-moved xs ys n moved in omega arith
+
+    none : (values : List V) → length values ≡ 0 → values ≡ []
+    none [] e = refl
+    none (v ∷ values) e = absurd (omega arith)
+
+    by : (held_on ys n ≡ []) ⊎ ((x : DayRange × V) × In x ys × (holds x.0 n ≡ true)) → value_in d ys n ≡ value_in d xs n
+    by (inl e) = let same = held-moved xs ys n moved in let zero_long = ap length e in value_in-none d ys n e ∙ sym (value_in-none d xs n (none (held_on xs n) (omega arith)))
+    by (inr some) = held-value d ys some.0 n few some.1 some.2 ∙ sym (held-value d xs some.0 n once (in-moved some.0 xs ys moved some.1) some.2)
+
+pub seen-moved : {V : Type 0} (nothing : V) (xs ys : List (DayRange × V)) (cuts : List ℕ) → IsPermutation xs ys → AreApart nothing xs cuts → list_seen nothing ys cuts ≡ list_seen nothing xs cuts
+seen-moved nothing xs ys cuts moved apart = ap (λ f. record { days = each_day f; cuts = cuts }) (fun_ext (λ n. value_in-moved nothing xs ys n moved (apart.once n)))
+
+pub apart-moved : {V : Type 0} (nothing : V) (xs ys : List (DayRange × V)) (cuts : List ℕ) → IsPermutation xs ys → AreApart nothing xs cuts → AreApart nothing ys cuts
+apart-moved nothing xs ys cuts moved apart = record {
+  once = λ n. let same = held-moved xs ys n moved in let few = apart.once n in omega arith;
+  given = All-permutation (λ given. given.1 ≢ nothing) xs ys moved apart.given;
+  divided = All-permutation (λ given. Contains cuts given.0.first × Contains cuts (given.0.last + 1)) xs ys moved apart.divided;
+  rising = apart.rising;
+  in_calendar = apart.in_calendar;
+}
 
 -- no period holds a day after the calendar
 pub held-past : {V : Type 0} (xs : List (DayRange × V)) (n : ℕ) → All (λ (given : DayRange × V). given.0.last < 36525) xs → 36525 ≤ n → held_on xs n ≡ []

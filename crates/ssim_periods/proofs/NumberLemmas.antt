@@ -1,18 +1,23 @@
 -- Numbers in place of values: they keep their values when more are known, and two numbers are equal
 -- if their values are.
-use Rattle.std.proofs.Common.{◌≡◌, ℕ, zero, suc, ◌+◌, ◌<◌, Bool, true, false, ◌||◌, if◌then◌else◌, nat_eq, nat_lt, Option, Some, List, [], ◌∷◌, ◌++◌, map, length, slice_get, slice_index_or, refl, ap, ◌∙◌, sym, arith, ◌⊎◌, inl, inr, IsTrue, ◌↔◌, eqb-true, eq-eqb, option_map, length-append, drop, take, slice_set}
+use Rattle.std.proofs.Common.{◌≡◌, ℕ, zero, suc, ◌+◌, ◌<◌, Bool, true, false, ◌≤◌, ◌&&◌, ◌||◌, if◌then◌else◌, nat_eq, nat_lt, Option, Some, List, [], ◌∷◌, ◌++◌, map, length, slice_get, slice_index_or, refl, ap, ◌∙◌, sym, arith, ◌⊎◌, inl, inr, IsTrue, ◌↔◌, eqb-true, eq-eqb, option_map, length-append, drop, take, slice_set}
 use Rattle.std.proofs.Math.Bool.{or-true}
 use Rattle.std.specs.List.{All, list_any, range_with_len}
 use Rattle.std.proofs.Math.Path.{fun_ext}
+use Rattle.std.proofs.lemmas.Bool.Decides.{nat_tests}
 use Rattle.std.proofs.lemmas.List.{map-append, take_more, take_more_set, drop_more}
 use Rattle.std.proofs.lemmas.Option.{slice_get-map, slice_get_read}
 use Rattle.ssim_values.specs.Period.{DayRange}
 use Rattle.ssim_periods.specs.Calendar.{slot, day_count}
 use Rattle.ssim_periods.specs.Cover.{cover}
 use Rattle.ssim_periods.specs.Days.{each_day}
+use Rattle.ssim_periods.specs.internal.Apart.{held_cover, is_held}
 use Rattle.ssim_periods.specs.internal.Gather.{gathered, numbered}
 use Rattle.ssim_periods.specs.Pieces.{has_value, pieces_with}
 use Rattle.ssim_periods.specs.internal.Rows.{row_on, value_on, AreRows}
+use Rattle.ssim_periods.proofs.CoverLemmas.{le_or_lt}
+use Rattle.ssim_periods.proofs.DayLemmas.{day_count-is}
+use Rattle.ssim_periods.proofs.PieceLaw.{has_value-at, has_value-past}
 
 get-last : {V : Type 0} (xs : List V) (x : V) → slice_get (xs ++ x ∷ []) (length xs) ≡ Some x
 get-last [] x = refl
@@ -24,12 +29,15 @@ number-read nothing now refs n k r e h at =
     let next : n ≡ suc k = omega arith in
     ap (numbered nothing (map now refs)) next ∙ slice_get-map now refs k ∙ ap (option_map now) (slice_get_read refs (length refs) k r refl h at)
 
--- the number of a value that is put last
-pub number-last : {R V : Type 0} (nothing : V) (now : R → V) (refs more : List R) (n : ℕ) (r : R) → more ≡ refs ++ r ∷ [] → n ≡ length more → numbered nothing (map now more) n ≡ Some (now r)
-number-last nothing now refs more n r is e =
-    let size = ap length is in let next : n ≡ suc (length refs) = omega (arith, length-append refs (r ∷ [])) in
-    ap (numbered nothing (map now more)) next ∙ slice_get-map now more (length refs)
-    ∙ ap (λ l. option_map now (slice_get l (length refs))) is ∙ ap (option_map now) (get-last refs r)
+-- the number of a value that was added
+pub number-pushed : {V : Type 0} (nothing : V) (known more : List V) (v : V) (n : ℕ) → more ≡ known ++ v ∷ [] → n ≡ length more → numbered nothing more n ≡ Some v
+number-pushed nothing known more v n is e =
+    let size = ap length is in let next : n ≡ suc (length known) = omega (arith, length-append known (v ∷ [])) in
+    ap (numbered nothing more) next ∙ ap (λ l. slice_get l (length known)) is ∙ get-last known v
+
+-- the number of a value is one more than its index
+pub number-index : {V : Type 0} (nothing : V) (values : List V) (v : V) (k : ℕ) → slice_get values k ≡ Some v → numbered nothing values (k + 1) ≡ Some v
+number-index nothing values v k h = let next : k + 1 ≡ suc k = omega arith in ap (numbered nothing values) next ∙ h
 
 pub get-known : {V : Type 0} (alike : V → V → Bool) → ((x y : V) → IsTrue (alike x y) ↔ (x ≡ y)) → (known : List V) (x : V) (n : ℕ) → slice_get known n ≡ Some x → list_any (alike x) known ≡ true
 get-known alike exact [] x n h = cc
@@ -143,6 +151,22 @@ pub pieces_with-number : {V : Type 0} (alike : V → V → Bool) (nothing : V) �
 pieces_with-number alike nothing exact values d k v own numbers days h =
     ap (λ is_in. map (λ (period : DayRange). (period, v)) (cover is_in (length numbers))) (fun_ext (has-number alike nothing exact values d k v own numbers days h))
     ∙ ap (λ end. map (λ (period : DayRange). (period, v)) (cover (has_value alike days v) end)) (length-same (numbered nothing values) Some numbers days h)
+
+-- the cover of periods with the days of a number is that of its value
+pub held_cover-number : {V : Type 0} (alike : V → V → Bool) (nothing : V) → ((x y : V) → IsTrue (alike x y) ↔ (x ≡ y)) → (values : List V) → AreDistinct (nothing ∷ values) → (k : ℕ) (v : V) → numbered nothing values k ≡ Some v → (numbers : List ℕ) (days : List V) → map (numbered nothing values) numbers ≡ map Some days → length numbers ≡ 36525 →
+    (periods : List DayRange) → ((n : ℕ) → is_held periods n ≡ (nat_lt n 36525 && nat_eq k (slice_index_or numbers n 0))) → held_cover periods v ≡ pieces_with alike days v
+held_cover-number {V} alike nothing exact values d k v own numbers days h size periods same =
+    ap (λ is_in. map (λ (period : DayRange). (period, v)) (cover is_in day_count)) (fun_ext (λ n. same n ∙ at n (le_or_lt (length numbers) n)))
+    ∙ ap (λ end. map (λ (period : DayRange). (period, v)) (cover (has_value nat_eq numbers k) end)) (day_count-is ∙ sym size)
+    ∙ pieces_with-number alike nothing exact values d k v own numbers days h
+  where
+    at : (n : ℕ) → (length numbers ≤ n) ⊎ (n < length numbers) → (nat_lt n 36525 && nat_eq k (slice_index_or numbers n 0)) ≡ has_value nat_eq numbers k n
+    at n (inl past) =
+        let off : nat_lt n 36525 ≡ false = grind (arith, nat_tests) in
+        ap (λ b. b && nat_eq k (slice_index_or numbers n 0)) off ∙ sym (has_value-past nat_eq numbers k n past)
+    at n (inr within) =
+        let on : nat_lt n 36525 ≡ true = grind (arith, nat_tests) in
+        ap (λ b. b && nat_eq k (slice_index_or numbers n 0)) on ∙ sym (has_value-at nat_eq 0 numbers k n within)
 
 -- the number of a day refers to the day's value
 index-numbered : {V : Type 0} (nothing : V) (values : List V) (numbers : List ℕ) (row : List V) (s : ℕ) → map (numbered nothing values) numbers ≡ map Some row → numbered nothing values (slice_index_or numbers s 0) ≡ Some (slice_index_or row s nothing)

@@ -5,6 +5,7 @@ pub mod Bits
 pub mod Count
 pub mod Forms
 pub mod Gather
+pub mod Numbers
 pub mod Parts
 pub mod Rows
 pub mod Splits

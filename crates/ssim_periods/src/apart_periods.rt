@@ -1,5 +1,5 @@
 //! Values given to periods of which no two have a common day.
-ghost use Rattle.std.specs.Prelude.{◌≡◌, ◌≢◌, ℕ, ◌+◌, ◌<◌, ◌≤◌, List, [], true, false, length, slice_get, slice_index_or, Some, IfOk, IfSome, IfNone, OnOk, OnErr, OnSome, IsTrue};
+ghost use Rattle.std.specs.Prelude.{◌≡◌, ◌≢◌, ◌⊎◌, ℕ, ◌+◌, ◌<◌, ◌≤◌, List, [], true, false, length, slice_get, slice_index_or, Some, IfOk, IfSome, IfNone, OnOk, OnErr, OnSome, IsTrue};
 ghost use Rattle.std.specs.List.{All, Contains};
 ghost use Rattle.std.specs.List.Sorted.{IsStrictlyIncreasing};
 ghost use Rattle.ssim_values.specs.Calendar.{weekday};
@@ -107,6 +107,20 @@ impl<V: Value> ApartPeriods<V> {
             → slice_index_or self.now.days n V.nothing ≡ V.nothing }
     {
         self.entries.len() < MOST && is_free(&self.entries, self.cuts.days(), period)
+    }
+
+    /// Whether the period comes before all of the list or after all of them. Its days then have the
+    /// empty value.
+    pub(crate) fn is_outside(&self, period: &Period) -> bool
+        ensures { IsTrue result → (n : ℕ) → holds period.now n ≡ true
+            → slice_index_or self.now.days n V.nothing ≡ V.nothing }
+    {
+        lies_outside(self.cuts.days(), period)
+    }
+
+    /// Whether the list is so long that it is better kept as rows.
+    pub(crate) fn is_long(&self) -> bool {
+        self.entries.len() > MOST
     }
 
     /// Gives the days of the period, which have the empty value, the outcome of the change for it.
@@ -275,12 +289,23 @@ impl<V: Value> ApartPeriods<V> {
     }
 
     /// The same values as rows. Their cuts are among those of the list.
-    pub(crate) fn to_rows(&self) -> Result<RangeRows<V>, Memory>
-        ensures days { IfOk result (λ rows. rows.days ≡ self.now.days) }
+    pub(crate) fn to_rows(&mut self) -> Result<RangeRows<V>, Memory>
+        ensures days { IfOk result (λ rows. rows.days ≡ self.old.days) }
         ensures cuts { IfOk result
-            (λ rows. (cut : ℕ) → Contains rows.cuts cut → Contains self.now.cuts cut) }
+            (λ rows. (cut : ℕ) → Contains rows.cuts cut → Contains self.old.cuts cut) }
+        ensures same { self.new ≡ self.old }
     {
+        self.sort()?;
         rows_of(self.alloc, &self.entries)
+    }
+
+    // Puts the latest periods first, in which order they are soonest made into rows.
+    fn sort(&mut self) -> Result<(), Memory>
+        ensures { self.new ≡ self.old }
+    {
+        self.entries
+            .sort_by_key(|entry| u16::MAX - entry.0.first().number())?;
+        Ok(())
     }
 
     /// The cover of the days of each value, each period with its value, sorted by first day. The
@@ -325,10 +350,16 @@ fn is_free<V: Value>(entries: &[(Period, V)], cuts: &[u32], period: &Period) -> 
     requires divided { AreDivided cuts.now entries.now }
     ensures { IsTrue result → (n : ℕ) → holds period.now n ≡ true → held_on entries.now n ≡ [] }
 {
+    lies_outside(cuts, period) || meets_none(entries, period)
+}
+
+// Whether a period ends before all of some days, or begins on the last of them or later.
+fn lies_outside(cuts: &[u32], period: &Period) -> bool
+    requires { IsStrictlyIncreasing cuts.now }
+    ensures { IsTrue result → All (λ cut. period.now.last < cut) cuts.now
+        ⊎ All (λ cut. cut ≤ period.now.first) cuts.now }
+{
     let first = period.first().number() as u32;
     let last = period.last().number() as u32;
-    if is_before_cuts(cuts, last) || is_after_cuts(cuts, first) {
-        return true;
-    }
-    meets_none(entries, period)
+    is_before_cuts(cuts, last) || is_after_cuts(cuts, first)
 }

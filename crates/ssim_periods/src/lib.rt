@@ -7,8 +7,8 @@
 //! then on `apply` calls a change at most seven times for each range that the period touches. A
 //! period of a hundred years costs no more than one of a day. No list of days is ever made.
 //!
-//! A value is any type that implements [`Value`]: it has an empty value, a test for equality, and a
-//! copy, which may run out of memory. The crate knows nothing of airlines.
+//! A value is any type that implements [`Value`]: it has an empty value, a test for equality, a total
+//! order, and a copy, which may run out of memory. The crate knows nothing of airlines.
 //!
 //! What the contracts promise, for every value and change that keep the laws of their traits:
 //!
@@ -31,11 +31,13 @@
 mod apart_periods;
 mod common_days;
 mod cover;
+mod distinct_values;
 mod numbers;
 mod periods;
 mod range_rows;
 mod rows;
 mod value;
+mod value_key;
 mod weekday_bits;
 mod weekdays;
 

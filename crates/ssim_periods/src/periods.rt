@@ -127,6 +127,8 @@ impl<V: Value> Periods<V> {
 
     /// Applies changes one after another, each to the days of its period, as `replace` does. If no
     /// day has a value yet and no two of the periods have a common day, they become a list at once.
+    /// The list grows without limit while each period comes before all earlier ones or after all of
+    /// them; `settle` ends that.
     pub fn replace_each<C: Change<V>>(&mut self, changes: &[(Period, C)]) -> Result<(), Memory>
         ensures days { OnOk result (self.new.days
             ≡ changed_by_each C.outcome changes.now self.old.days) }
@@ -137,7 +139,38 @@ impl<V: Value> Periods<V> {
             return Ok(());
         }
         for change in changes {
-            self.replace(&change.0, &change.1)?;
+            self.extend(&change.0, &change.1)?;
+        }
+        Ok(())
+    }
+
+    // Does what `replace` does. A period before or after all others joins the list, however long
+    // that is: it need not be compared with them.
+    fn extend<C: Change<V>>(&mut self, period: &Period, change: &C) -> Result<(), Memory>
+        ensures days { OnOk result (self.new.days
+            ≡ changed_on (holds period.now) (C.outcome change.now) 0 self.old.days) }
+        ensures cuts { OnOk result (AddsOnly self.old.cuts self.new.cuts period.now.first
+            (period.now.last + 1)) }
+    {
+        if let Form::Apart(periods) = &mut self.form {
+            if periods.is_outside(period) {
+                return periods.replace(period, change);
+            }
+        }
+        self.replace(period, change)
+    }
+
+    /// Makes rows of the list that `replace_each` made, if it is longer than the other changes
+    /// allow. In rows the value of a day is found by binary search.
+    pub fn settle(&mut self) -> Result<(), Memory>
+        ensures days { OnOk result (self.new.days ≡ self.old.days) }
+        ensures cuts { OnOk result ((cut : ℕ) → Contains self.new.cuts cut
+            → Contains self.old.cuts cut) }
+    {
+        if let Form::Apart(periods) = &mut self.form {
+            if periods.is_long() {
+                self.form = Form::Rows(periods.to_rows()?);
+            }
         }
         Ok(())
     }

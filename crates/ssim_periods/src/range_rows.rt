@@ -7,6 +7,7 @@ ghost use Rattle.ssim_periods.specs.Days.{each_day, changed_on, counts_on, AddsO
 ghost use Rattle.ssim_periods.specs.internal.Rows.{value_on, AreRows};
 
 pub(crate) mod count;
+mod number_periods;
 pub(crate) mod patches;
 mod pieces;
 mod row_copies;

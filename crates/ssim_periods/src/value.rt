@@ -1,7 +1,11 @@
 ghost use Rattle.std.specs.Prelude.{◌≡◌, ℕ, ◌<◌, ◌↔◌, IsTrue, IfOk, Bool};
+ghost use Rattle.std.specs.Cmp.{IsTotalOrder};
+ghost use Rattle.std.specs.Ordering.{is_eq};
+ghost use Rattle.std.specs.declared.cmp.Ordering.{Ordering};
 
 use ssim_values::Memory;
 use std::alloc::Global;
+use std::cmp::Ordering;
 
 /// A value that a day may have.
 pub trait Value: Drop {
@@ -10,6 +14,9 @@ pub trait Value: Drop {
 
     /// Whether two values are the same.
     ghost alike: { Self → Self → Bool };
+
+    /// The order of two values.
+    ghost compared: { Self → Self → Ordering };
 
     /// The empty value: the value of a day that has no other.
     fn empty() -> Self
@@ -23,12 +30,23 @@ pub trait Value: Drop {
     fn same(&self, other: &Self) -> bool
         ensures { result ≡ alike self.now other.now };
 
+    /// The order of two values, by which equal values among many are found. It may be any total
+    /// order, so that the cheapest one will do.
+    fn order(&self, other: &Self) -> Ordering
+        ensures { result ≡ compared self.now other.now };
+
     /// An equal value, or out of memory.
     fn copy(&self, alloc: Global) -> Result<Self, Memory>
         ensures { IfOk result (λ copy. copy ≡ self.now) };
 
     /// Two values are alike if and only if they are equal.
     ghost exact: { (x y : Self) → IsTrue (alike x y) ↔ (x ≡ y) };
+
+    /// The order is total.
+    ghost total: { IsTotalOrder compared };
+
+    /// Two values are alike if and only if neither comes before the other.
+    ghost told_apart: { (x y : Self) → alike x y ≡ is_eq (compared x y) };
 }
 
 // Whether two values are equal.

@@ -1,12 +1,15 @@
 //! The number of what is said of a day.
 
 ghost use Rattle.std.specs.Prelude.{◌≡◌, ◌≤◌, ℕ, nat_eq, IfOk};
+ghost use Rattle.std.specs.Cmp.{nat_cmp_total, unsigned_ties};
+ghost use Rattle.std.specs.Ordering.{nat_cmp};
 ghost use Rattle.std.proofs.Common.{eq-eqb, eqb-true};
 ghost use Rattle.ssim_publish.specs.internal.Marked.{other_mark};
 
 use ssim_periods::{Change, Value};
 use ssim_values::Memory;
 use std::alloc::Global;
+use std::cmp::Ordering;
 use std::marker::Model;
 
 /// The number of what is said of a day, from 1; 0 if nothing is.
@@ -49,6 +52,8 @@ impl Value for Mark {
 
     ghost alike = { nat_eq };
 
+    ghost compared = { nat_cmp };
+
     fn empty() -> Self {
         Mark { number: 0 }
     }
@@ -61,6 +66,10 @@ impl Value for Mark {
         self.number == other.number
     }
 
+    fn order(&self, other: &Self) -> Ordering {
+        self.number.cmp(&other.number)
+    }
+
     fn copy(&self, _alloc: Global) -> Result<Self, Memory> {
         Ok(Mark {
             number: self.number,
@@ -68,6 +77,10 @@ impl Value for Mark {
     }
 
     ghost exact = { λ x y. (eqb-true x y, eq-eqb x y) };
+
+    ghost total = { nat_cmp_total };
+
+    ghost told_apart = { unsigned_ties };
 }
 
 // A day is marked: it becomes this mark.

@@ -16,3 +16,4 @@ pub mod Acts
 pub mod Applied
 pub mod InOrder
 pub mod Writable
+pub mod TailsOrder

@@ -8,5 +8,7 @@ pub mod Dates
 pub mod FlightDate
 pub mod PlacedLegs
 pub mod FlightPieces
+pub mod ItineraryOrder
+pub mod ItineraryOrderLaws
 pub mod examples
 pub mod internal

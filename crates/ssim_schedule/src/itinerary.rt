@@ -4,6 +4,8 @@ ghost use Rattle.std.specs.Prelude.{◌≡◌, ◌<◌, ◌≤◌, ◌%◌, ◌^
 ghost use Rattle.std.specs.Prelude.{OnOk, length, reverse};
 ghost use Rattle.ssim_base.specs.Export.{same_itinerary};
 ghost use Rattle.ssim_base.specs.ItineraryLaws.{exact_itinerary};
+ghost use Rattle.ssim_schedule.specs.ItineraryOrder.{itinerary_cmp};
+ghost use Rattle.ssim_schedule.specs.ItineraryOrderLaws.{itinerary-told_apart, itinerary_cmp_total};
 ghost use Rattle.ssim_schedule.specs.PlacedLegs.{legs_before, placed_each};
 ghost use Rattle.ssim_schedule.specs.internal.SharedLegs.{legs_count};
 ghost use Rattle.ssim_schedule.specs.internal.SharedLegs.{CountsRecords, hash_of, legs_of};
@@ -12,6 +14,7 @@ use crate::leg::PlacedLeg;
 use ssim_periods::{Change, Value};
 use ssim_values::Memory;
 use std::alloc::Global;
+use std::cmp::Ordering;
 use std::marker::Model;
 use std::rc::Rc;
 
@@ -279,10 +282,34 @@ pub fn same_legs(mine: &[PlacedLeg], theirs: &[PlacedLeg]) -> bool
     }
 }
 
+// The order of two itineraries, by their legs.
+fn order_of_legs(mine: &[PlacedLeg], theirs: &[PlacedLeg]) -> Ordering
+    ensures { result ≡ itinerary_cmp mine.now theirs.now }
+{
+    match mine.split_first() {
+        None => match theirs.split_first() {
+            None => Ordering::Equal,
+            Some(_) => Ordering::Less,
+        },
+        Some((leg, legs)) => match theirs.split_first() {
+            None => Ordering::Greater,
+            Some((other, others)) => {
+                let order = leg.order(other);
+                if order.is_ne() {
+                    return order;
+                }
+                order_of_legs(legs, others)
+            }
+        },
+    }
+}
+
 impl Value for Itinerary {
     ghost nothing = { [] };
 
     ghost alike = { same_itinerary };
+
+    ghost compared = { itinerary_cmp };
 
     fn empty() -> Self {
         Itinerary {
@@ -300,6 +327,10 @@ impl Value for Itinerary {
         self.hash == other.hash && same_legs(self.legs(), other.legs())
     }
 
+    fn order(&self, other: &Self) -> Ordering {
+        order_of_legs(self.legs(), other.legs())
+    }
+
     fn copy(&self, _alloc: Global) -> Result<Self, Memory> {
         Ok(Itinerary {
             legs: self.legs.copy()?,
@@ -309,6 +340,10 @@ impl Value for Itinerary {
     }
 
     ghost exact = { exact_itinerary };
+
+    ghost total = { itinerary_cmp_total };
+
+    ghost told_apart = { itinerary-told_apart };
 }
 
 /// As a change, an itinerary puts its legs among those of a date, each by its leg sequence. All

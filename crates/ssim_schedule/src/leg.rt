@@ -2,11 +2,13 @@
 
 ghost use Rattle.std.specs.Prelude.{◌≡◌, ◌<◌, ◌^◌, IfOk, map};
 ghost use Rattle.ssim_base.specs.Export.{same_leg, same_tails};
+ghost use Rattle.ssim_schedule.specs.ItineraryOrder.{leg_cmp, tails_cmp};
 ghost use Rattle.ssim_schedule.specs.internal.SharedLegs.{leg_hash};
 
 use ssim_records::{LegColumns, SegmentTail};
 use ssim_values::Memory;
 use std::alloc::Global;
+use std::cmp::Ordering;
 use std::marker::Model;
 
 /// A leg of an itinerary: its leg sequence, its own columns, and its tails, the segment data that
@@ -92,6 +94,21 @@ impl PlacedLeg {
             && same_tails(&self.tails, &other.tails)
     }
 
+    /// The order of two legs: by leg sequence, columns and tails.
+    pub(crate) fn order(&self, other: &PlacedLeg) -> Ordering
+        ensures { result ≡ leg_cmp self.now other.now }
+    {
+        let by_sequence = self.sequence.cmp(&other.sequence);
+        if by_sequence.is_ne() {
+            return by_sequence;
+        }
+        let by_columns = self.columns.bytes().cmp(&other.columns.bytes());
+        if by_columns.is_ne() {
+            return by_columns;
+        }
+        order_of_tails(&self.tails, &other.tails)
+    }
+
     /// A hash of the columns and the number of tails.
     pub(crate) fn hash(&self) -> u64
         ensures value { result ≡ leg_hash self.now }
@@ -125,6 +142,26 @@ pub fn same_tails(mine: &[SegmentTail], theirs: &[SegmentTail]) -> bool
         }
     }
     true
+}
+
+// The order of two lists of tails: the first two that differ decide. A list
+// comes before one that begins with it.
+fn order_of_tails(mine: &[SegmentTail], theirs: &[SegmentTail]) -> Ordering
+    ensures { result ≡ tails_cmp mine.now theirs.now }
+{
+    for place in 0..mine.len() {
+        if place == theirs.len() {
+            return Ordering::Greater;
+        }
+        let order = mine[place].bytes().cmp(&theirs[place].bytes());
+        if order.is_ne() {
+            return order;
+        }
+    }
+    if mine.len() == theirs.len() {
+        return Ordering::Equal;
+    }
+    Ordering::Less
 }
 
 /// Equal legs.

@@ -1,10 +1,13 @@
 ghost use Rattle.std.specs.Prelude.{◌≡◌, ℕ, ◌%◌, nat_eq};
+ghost use Rattle.std.specs.Cmp.{nat_cmp_total, unsigned_ties};
+ghost use Rattle.std.specs.Ordering.{nat_cmp};
 ghost use Rattle.std.proofs.Common.{eqb-true, eq-eqb};
 
 use ssim_periods::{Change, Memory, Periods, Value};
 use ssim_values::{Day, DayMask, Fault, Period};
 use std::alloc::Global;
 use std::cell::Cell;
+use std::cmp::Ordering;
 use std::marker::Model;
 
 // A number as a value: 0 is empty, and 9 refuses to be copied.
@@ -26,6 +29,8 @@ impl Value for Number {
 
     ghost alike = { nat_eq };
 
+    ghost compared = { nat_cmp };
+
     fn empty() -> Self {
         Number { number: 0 }
     }
@@ -36,6 +41,10 @@ impl Value for Number {
 
     fn same(&self, other: &Self) -> bool {
         self.number == other.number
+    }
+
+    fn order(&self, other: &Self) -> Ordering {
+        self.number.cmp(&other.number)
     }
 
     fn copy(&self, _alloc: Global) -> Result<Self, Memory> {
@@ -49,6 +58,10 @@ impl Value for Number {
     }
 
     ghost exact = { λ x y. (eqb-true x y, eq-eqb x y) };
+
+    ghost total = { nat_cmp_total };
+
+    ghost told_apart = { unsigned_ties };
 }
 
 // Every value becomes one, and is of one class. Counts its calls.

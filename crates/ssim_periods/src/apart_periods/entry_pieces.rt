@@ -68,8 +68,8 @@ fn push_value<V: Value>(
     push_days(alloc, pieces, periods, &entry.1)
 }
 
-// Appends the cover of the days of some periods, with a value.
-fn push_days<V: Value>(
+/// Appends the cover of the days of some periods, with a value.
+pub(crate) fn push_days<V: Value>(
     alloc: Global,
     pieces: &mut Vec<(Period, V)>,
     periods: &[Period],

@@ -17,9 +17,9 @@ impl<V: Value> Periods<V> {
     /// value of one period gives this period, trimmed to the days that it holds. For a value of
     /// several periods, rows are made of these periods alone. Otherwise each value of a row first
     /// gets a number: mostly by one comparison, with the value of the same weekday in the row
-    /// before, else by comparisons with the distinct values. From then on only numbers are
-    /// compared. Each distinct value costs one pass over the ranges, with at most seven comparisons
-    /// in each.
+    /// before, else by its order among the distinct values. One pass over the ranges then gives the
+    /// periods of each number, of which the pieces are made as in a list. So the cost grows with
+    /// the ranges, times the logarithm of the number of distinct values.
     pub fn pieces(&self) -> Result<Vec<(Period, V)>, Memory>
         ensures pieces { IfOk result (λ pieces. pieces.items
             ≡ pieces_of V.alike V.nothing self.now.days) }

@@ -5,8 +5,9 @@ ghost use Rattle.ssim_periods.specs.Cover.{first_where, cover, weekdays_of, brea
 ghost use Rattle.ssim_periods.specs.Pieces.{has_value, pieces_of};
 
 use crate::Value;
+use crate::apart_periods::entry_pieces::push_days;
 use crate::cover::{last_in, period_of, unlike_in_row};
-use crate::numbers::{ValueNumber, numbered_days};
+use crate::numbers::numbered_days;
 use crate::range_rows::RangeRows;
 use crate::rows::{DAYS, place_of, range_end, row_at};
 use crate::weekdays::first_on;
@@ -19,19 +20,20 @@ impl<V: Value> RangeRows<V> {
     /// sorted by first day.
     ///
     /// Each value of a row first gets a number: mostly by one comparison, with the value of the
-    /// same weekday in the row before, else by comparisons with the distinct values. From then on
-    /// only numbers are compared. Each distinct value costs one pass over the ranges, with at most
-    /// seven comparisons in each.
+    /// same weekday in the row before, else by its order among the distinct values. One
+    /// pass over the ranges then puts the days of each number into periods, and each value's cover
+    /// is made of its own periods alone.
     pub(crate) fn pieces(&self) -> Result<Vec<(Period, V)>, Memory>
         ensures pieces { IfOk result (λ pieces. pieces.items
             ≡ pieces_of V.alike V.nothing self.now.days) }
         ensures each_day { OnOk result (length self.now.days ≡ day_count) }
     {
         let (values, numbers) = numbered_days(self.alloc, &self.before, &self.cuts, &self.rows)?;
+        let values = values.values();
+        let periods = numbers.periods_of_numbers(values.len())?;
         let mut pieces = Vec::new(self.alloc);
         for place in 0..values.len() {
-            let number = ValueNumber { number: place + 1 };
-            numbers.push_cover(&number, values[place], &mut pieces)?;
+            push_days(self.alloc, &mut pieces, &periods[place], values[place])?;
         }
         pieces.sort_by_key(|piece| piece.0.first().number())?;
         Ok(pieces)

@@ -120,6 +120,7 @@ impl TableBuilder {
         let empty = Periods::new(self.blocks.allocator());
         let mut periods = mem::replace(&mut self.periods, empty);
         periods.replace_each(&self.runs)?;
+        periods.settle()?;
         self.blocks.put(flight, periods)
     }
 

@@ -4,10 +4,10 @@ use Rattle.ssim_periods.proofs.numbers.number_row.Given as goal
 
 abbrev pub invariant-loop-weekday : goal.invariant-loop-weekday
 invariant-loop-weekday g l =
-    let alike = g.V.Value.alike in let nothing = g.V.Value.nothing in let known = map (λ other. other.now) l.values.items in
+    let alike = g.V.Value.alike in let nothing = g.V.Value.nothing in let known = l.values in
     record {
       week : length l.row ≡ 7;
       size : length l.numbers ≡ 7;
-      rest : gathered alike nothing known (drop l.weekday l.row) ≡ gathered alike nothing (map (λ other. other.now) l.fn.values.items) l.row;
+      rest : gathered alike nothing known (drop l.weekday l.row) ≡ gathered alike nothing l.fn.values l.row;
       done : map (numbered nothing known) (take l.weekday l.numbers) ≡ map Some (take l.weekday l.row);
     }

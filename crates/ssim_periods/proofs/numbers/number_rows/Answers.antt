@@ -8,7 +8,7 @@ use Rattle.ssim_periods.proofs.numbers.number_rows.Goals as goal
 pub loop-row-preserved : goal.loop-row-preserved
 loop-row-preserved g c =
     let alike = g.V.Value.alike in let nothing = g.V.Value.nothing in let rows = c.args.rows.now in let l = c.loop-row in let i = l.row-index in let row = c.row-item.result in
-    let known = map (λ other. other.now) l.values.items in let more = map (λ other. other.now) c.number_row.new.values.items in
+    let known = l.values in let more = c.number_row.new.values in
     let later = flat_map (λ row. row) (drop (i + 1) rows) in let e = c.in_ok-above.ensures in
     let test : i < length rows = omega arith in
     record {

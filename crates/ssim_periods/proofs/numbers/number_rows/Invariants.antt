@@ -5,8 +5,8 @@ use Rattle.ssim_periods.proofs.numbers.number_rows.Given as goal
 
 abbrev pub invariant-loop-row : goal.invariant-loop-row
 invariant-loop-row g l =
-    let alike = g.V.Value.alike in let nothing = g.V.Value.nothing in let known = map (λ other. other.now) l.values.items in
+    let alike = g.V.Value.alike in let nothing = g.V.Value.nothing in let known = l.values in
     record {
-      rest : gathered alike nothing known (flat_map (λ row. row) (drop l.row-index l.rows)) ≡ gathered alike nothing (map (λ other. other.now) l.fn.values.items) (flat_map (λ row. row) l.rows);
+      rest : gathered alike nothing known (flat_map (λ row. row) (drop l.row-index l.rows)) ≡ gathered alike nothing l.fn.values (flat_map (λ row. row) l.rows);
       done : map (map (numbered nothing known)) l.numbers.items ≡ map (map Some) (take l.row-index l.rows);
     }

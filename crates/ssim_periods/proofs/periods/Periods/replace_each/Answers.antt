@@ -25,8 +25,8 @@ loop-change-preserved g c =
     let xs = c.args.changes.now in let i = c.loop-change.change-index in let x = c.change-item.result in
     let whole = changed_by_each g.C.Change.outcome xs c.args.self.now.days in
     record {
-      days = changed-rest g.C.Change.outcome xs i x c.loop-change.self.days c.replace.new.self.days whole c.loop-change-test.true c.change-item.is c.in_ok-replace.ensures.days c.loop-change.invariant.days;
-      cuts = ends-rest xs i x c.loop-change.self.cuts c.replace.new.self.cuts (ends_of xs ++ c.args.self.now.cuts) c.loop-change-test.true c.change-item.is c.in_ok-replace.ensures.cuts c.loop-change.invariant.cuts;
+      days = changed-rest g.C.Change.outcome xs i x c.loop-change.self.days c.extend.new.self.days whole c.loop-change-test.true c.change-item.is c.in_ok-extend.ensures.days c.loop-change.invariant.days;
+      cuts = ends-rest xs i x c.loop-change.self.cuts c.extend.new.self.cuts (ends_of xs ++ c.args.self.now.cuts) c.loop-change-test.true c.change-item.is c.in_ok-extend.ensures.cuts c.loop-change.invariant.cuts;
     }
 
 pub returns-clause-days : goal.returns-clause-days

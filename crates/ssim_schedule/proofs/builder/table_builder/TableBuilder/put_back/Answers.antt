@@ -17,7 +17,7 @@ returns-clause-cuts c =
     let runs : List Run = old.runs.items in
     let own : Seen Legs = with_runs runs old.periods in
     let taken : Seen Legs = c.replace-periods.result in
-    let cuts : List ℕ = c.replace_each.new.self.cuts in
+    let cuts : List ℕ = c.settle.new.self.cuts in
     let flight : FlightNumber = c.in-Some.flight in
     let is_at : FlightNumber → Bool = λ g. nat_eq (place_of flight) (place_of g) in
     let table : Option FlightNumber → Table = λ o. with_current o own old.blocks in
@@ -26,7 +26,7 @@ returns-clause-cuts c =
     subst (λ (ps : Seen Legs). Contains (with_runs runs ps).cuts cut)
     c.replace-periods.ensures.value
     (subst (λ (rs : List Run). Contains (with_runs rs taken).cuts cut) c.deref.ensures.value
-    (c.in_ok-replace_each.ensures.cuts cut has)) in
+    (c.in_ok-replace_each.ensures.cuts cut (c.in_ok-settle.ensures.cuts cut has))) in
     on_ok c.put.result (λ put g cut has.
     subst (λ (o : Option FlightNumber). Contains (table_cuts (table o) g) cut) was
     (cuts-back (is_at g) cuts own.cuts (table_cuts old.blocks g) kept cut
