@@ -6,7 +6,7 @@ ghost use Rattle.ssim_page.specs.Page.{IsPage, document_end, document_title, let
 ghost use Rattle.ssim_page.specs.Page.{section, section_title, sections, shown_title};
 
 use crate::heading::{Heading, push_title};
-use crate::itineraries::{itineraries, letter_of};
+use crate::itineraries::{letter_of, lettered};
 use crate::look::{BOX, SCRIPT, STYLE};
 use crate::row::push_row;
 use ssim_listing::name_of;
@@ -119,7 +119,7 @@ fn push_rows(
 ) -> Result<(), Memory>
     ensures { OnOk result (page.new.items ≡ page.old.items ++ rows pieces.now) }
 {
-    let found = itineraries(alloc, pieces)?;
+    let found = lettered(alloc, pieces)?;
     push_each(page, &found, pieces)
 }
 
