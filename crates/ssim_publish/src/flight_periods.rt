@@ -14,6 +14,7 @@ use crate::flight_change::FlightChange;
 use crate::mark::Mark;
 use crate::period_actions::add_period;
 use crate::said_days::{SaidPeriods, said_periods};
+use crate::single_dates::settle_date;
 use ssim_base::StationRow;
 use ssim_difference::FlightDifference;
 use ssim_schedule::{Itinerary, Schedule};
@@ -59,15 +60,37 @@ fn add_periods(
 {
     let mut said = said;
     for piece in periods {
-        let period = piece.0;
-        let mut actions = taken(alloc, &mut said, piece.1.place());
-        if actions.is_empty() {
-            let day = period.first();
-            actions = said_again(alloc, rows, day, change.old.at(day), change.new.at(day))?;
-        }
-        add_period(rows, draft, change, period, actions)?;
+        add_piece(alloc, rows, draft, change, &mut said, piece)?;
     }
     Ok(())
+}
+
+// Adds the sub-messages of a period of a flight, with the number of its actions. Those of one date
+// are tried on the date alone, not on a copy of the timetable.
+fn add_piece(
+    alloc: Global,
+    rows: &[StationRow],
+    draft: &mut Draft,
+    change: &FlightChange,
+    said: &mut Vec<Vec<Action>>,
+    piece: &(Period, Mark),
+) -> Result<(), Memory>
+    requires { AllByRecursion (λ actions. AllByRecursion IsSaid actions.items) said.old.items }
+    ensures draft { OnOk result ((from to : FlightNumber → Days) → IsChangeOf from to change.now
+        → IsDraft rows.now from to draft.old → IsDraft rows.now from to draft.new) }
+    ensures left { OnOk result
+        (AllByRecursion (λ actions. AllByRecursion IsSaid actions.items) said.new.items) }
+{
+    let period = piece.0;
+    let day = period.first();
+    if day == period.last() {
+        return settle_date(alloc, rows, draft, change, day);
+    }
+    let mut actions = taken(alloc, said, piece.1.place());
+    if actions.is_empty() {
+        actions = said_again(alloc, rows, day, change.old.at(day), change.new.at(day))?;
+    }
+    add_period(rows, draft, change, period, actions)
 }
 
 // Takes the actions with a place out of the lists; none if they are taken already.

@@ -101,8 +101,8 @@ fn settle_number(
     settle_date(alloc, rows, draft, change, day)
 }
 
-// Settles a date, by sub-messages of the actions that are said of it, if any are.
-fn settle_date(
+/// Settles a date, by sub-messages of the actions that are said of it, if any are.
+pub(crate) fn settle_date(
     alloc: Global,
     rows: &[StationRow],
     draft: &mut Draft,
