@@ -227,7 +227,7 @@ def break_order(rng, records):
 def break_bytes(rng, data):
     kind = rng.choice(["cut", "cut", "byte", "line end before", "carriage return", "empty"])
     if kind == "cut":
-        return kind, data[: rng.randrange(len(data))]
+        return kind, data[: rng.randrange(max(len(data), 1))]
     if kind == "byte":
         place = rng.randrange(len(data))
         return kind, data[:place] + bytes([rng.randrange(256)]) + data[place + 1 :]
