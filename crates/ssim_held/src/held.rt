@@ -14,15 +14,20 @@ use std::rc::Rc;
 /// hold the same message may share it.
 #[derive(Drop)]
 pub struct Held {
+    /// The reference of the contents, so that a search in a list reads the list alone.
+    reference: Reference,
     contents: Rc<Contents>,
 }
 
 impl Model for Held {
+    ghost use Rattle.std.specs.Prelude.{◌≡◌};
     ghost use Rattle.ssim_held.specs.Entries.{Entry};
 
     ghost Value = { Entry };
 
     ghost view = { λ h. h.contents.value };
+
+    ghost invariant = { λ h. h.reference ≡ h.contents.value.reference };
 }
 
 #[derive(Drop)]
@@ -49,12 +54,6 @@ impl Model for Contents {
 }
 
 impl Contents {
-    fn reference(&self) -> Reference
-        ensures { result ≡ self.now.reference }
-    {
-        self.reference
-    }
-
     fn message(&self) -> &Message
         ensures { result.now ≡ self.now.message }
     {
@@ -93,6 +92,7 @@ impl Held {
             dates,
         };
         Ok(Held {
+            reference,
             contents: Rc::new(alloc, contents)?,
         })
     }
@@ -102,6 +102,7 @@ impl Held {
         ensures { IfOk result (λ copy. copy ≡ self.now) }
     {
         Ok(Held {
+            reference: self.reference,
             contents: self.contents.clone()?,
         })
     }
@@ -110,7 +111,7 @@ impl Held {
     pub fn reference(&self) -> Reference
         ensures { result ≡ self.now.reference }
     {
-        self.contents.reference()
+        self.reference
     }
 
     /// The message.
