@@ -9,7 +9,7 @@ use std::io::{ErrorKind, Read};
 
 /// Reads bytes after those that are there, through `chunk`, until there are `most` of them or the
 /// reader ends.
-fn fill<R: Read>(
+pub(crate) fn fill<R: Read>(
     reader: &mut R,
     chunk: &mut [u8],
     bytes: &mut Vec<u8>,

@@ -1,10 +1,13 @@
 //! A file that a command holds: the lock of the file that is there, and what it was then.
 
+ghost use Rattle.std.specs.Prelude.{◌≡◌, IfOk, string_bytes};
+
 use crate::draft::keep_fault_of;
-use ssim_program::{ContentKind, Hold, HoldFault, KeepFault};
+use crate::file_bytes::fill;
+use ssim_program::{ContentKind, Hold, HoldFault, KeepFault, StoreFault};
 use std::alloc::Global;
 use std::fs::{File, Metadata, OpenOptions, TryLockError};
-use std::io::{ErrorKind, Read};
+use std::io::ErrorKind;
 use std::os::fd::AsRawFd;
 use std::os::unix::fs::MetadataExt;
 use std::rt::Files;
@@ -184,18 +187,15 @@ fn locked<R: Files<File = File>>(
     Err(HoldFault::Busy)
 }
 
-/// Reads the first bytes of a file. Returns their number.
-fn read_beginning(file: &mut File, bytes: &mut [u8]) -> io::Result<usize> {
-    let mut filled = 0;
-    while filled < bytes.len() {
-        match file.read(&mut bytes[filled..]) {
-            Ok(0) => return Ok(filled),
-            Ok(n) => filled += n,
-            Err(error) if error.kind() == ErrorKind::Interrupted => {}
-            Err(error) => return Err(error),
-        }
+/// The first bytes of a file.
+fn beginning_of(alloc: Global, file: &mut File) -> Result<Vec<u8>, HoldFault> {
+    let mut chunk = [0; BEGINNING];
+    let mut bytes = Vec::new(alloc);
+    match fill(file, &mut chunk, &mut bytes, BEGINNING) {
+        Ok(()) => Ok(bytes),
+        Err(StoreFault::Memory) => Err(HoldFault::Memory),
+        Err(StoreFault::Fault) => Err(HoldFault::Fault),
     }
-    Ok(filled)
 }
 
 /// What is at the place of a regular file, which is locked if it may be replaced.
@@ -208,12 +208,8 @@ fn found_regular<R: Files<File = File>>(
     let Some(mut file) = locked(rt, alloc, name)? else {
         return Ok(Found::Nothing);
     };
-    let mut beginning = [0; BEGINNING];
-    let read = match read_beginning(&mut file, &mut beginning) {
-        Ok(read) => read,
-        Err(error) => return Err(fault_of(&error)),
-    };
-    if !kind.replaces(&beginning[..read]) {
+    let beginning = beginning_of(alloc, &mut file)?;
+    if !kind.replaces(&beginning) {
         return Err(HoldFault::Occupied);
     }
     match file.metadata() {
@@ -232,7 +228,9 @@ pub(crate) fn hold_file<R: Files<File = File>>(
     alloc: Global,
     name: &str,
     kind: ContentKind,
-) -> Result<FileHold, HoldFault> {
+) -> Result<FileHold, HoldFault>
+    ensures { IfOk result (λ hold. string_bytes hold.name ≡ name.now) }
+{
     let found = match rt.metadata(name) {
         _ if name == "-" => Found::Other,
         Ok(there) if there.is_file() => found_regular(rt, alloc, name, kind)?,
