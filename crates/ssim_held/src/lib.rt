@@ -14,8 +14,8 @@
 //!
 //! The definitions that the contracts cite are in `specs/`: `Held` (messages by reference, and what
 //! a desk is), `Entries` (the entries of a list), `Ordered` (the position of a message in a list,
-//! and two lists merged), `Pages` (the position of a message on pages), `File` and `Opening` (the bytes of a desk file, and what reading them
-//! returns), and `Fault`. Computed examples are in `proofs/Examples`.
+//! and two lists merged), `Pages` (the position of a message on pages), `File` and `Opening` (the
+//! bytes of a desk file, and what reading them returns), and `Fault`. Computed examples are in `proofs/Examples`.
 //!
 //! The promise: the list says exactly which message is held under which reference; and bytes are
 //! the file of at most one base and one list, which are read from them, and written as them again.

@@ -150,7 +150,8 @@ impl Pages {
 
     /// The message at a place.
     pub fn at(&self, place: Place) -> &Held
-        requires { (page : List Entry) × (slice_get self.now place.page ≡ Some page) × (place.at < length page) }
+        requires { (page : List Entry) × (slice_get self.now place.page ≡ Some page)
+            × (place.at < length page) }
         ensures { slice_get (all_of self.now) (position self.now place) ≡ Some result.now }
     {
         &self.pages[place.page].held()[place.at]
@@ -159,7 +160,8 @@ impl Pages {
     /// Puts a message into a gap.
     pub fn insert(&mut self, place: Place, new: Held) -> Result<(), Memory>
         requires { IsGap self.old place }
-        ensures ok { OnOk result (all_of self.new ≡ insert (all_of self.old) (position self.old place) new) }
+        ensures ok { OnOk result
+            (all_of self.new ≡ insert (all_of self.old) (position self.old place) new) }
         ensures err { OnErr result (all_of self.new ≡ all_of self.old) }
     {
         insert(self.alloc, &mut self.pages, place, new)
@@ -167,7 +169,8 @@ impl Pages {
 
     /// Takes away the message at a place. Allocates nothing.
     pub fn remove(&mut self, place: Place)
-        requires { (page : List Entry) × (slice_get self.old place.page ≡ Some page) × (place.at < length page) }
+        requires { (page : List Entry) × (slice_get self.old place.page ≡ Some page)
+            × (place.at < length page) }
         ensures { all_of self.new ≡ remove (all_of self.old) (position self.old place) }
     {
         remove(&mut self.pages, place)
@@ -241,7 +244,8 @@ fn begins_after(page: &Page, reference: &Reference) -> bool
 fn insert(alloc: Global, pages: &mut Vec<Page>, place: Place, new: Held) -> Result<(), Memory>
     requires { IsGap pages.old.items place }
     ensures ok { OnOk result
-        (all_of pages.new.items ≡ insert (all_of pages.old.items) (position pages.old.items place) new) }
+        (all_of pages.new.items
+        ≡ insert (all_of pages.old.items) (position pages.old.items place) new) }
     ensures err { OnErr result (all_of pages.new.items ≡ all_of pages.old.items) }
     ensures filled { All IsFilled pages.old.items → All IsFilled pages.new.items }
 {
@@ -297,7 +301,8 @@ fn divide(pages: &mut Vec<Page>, number: usize) -> Result<(), Memory>
 fn remove(pages: &mut Vec<Page>, place: Place)
     requires on { (page : List Entry) × (slice_get pages.old.items place.page ≡ Some page)
         × (place.at < length page) }
-    ensures all { all_of pages.new.items ≡ remove (all_of pages.old.items) (position pages.old.items place) }
+    ensures all { all_of pages.new.items
+        ≡ remove (all_of pages.old.items) (position pages.old.items place) }
     ensures filled { All IsFilled pages.old.items → All IsFilled pages.new.items }
 {
     let page = &mut pages[place.page];

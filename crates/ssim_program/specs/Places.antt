@@ -1,5 +1,6 @@
 -- Which files a command may replace, and when it holds the place of one.
-use Rattle.std.specs.Prelude.{◌≡◌, ◌==◌, ◌||◌, ◌&&◌, ℕ, Bool, false, not, nat_eq, List, IfSome, IsTrue, ⊤}
+use Rattle.std.specs.Prelude.{◌≡◌, ◌==◌, ◌||◌, ◌&&◌, ℕ, Bool, false, not, nat_eq, List, IfSome}
+use Rattle.std.specs.Prelude.{IsTrue, ⊤}
 use Rattle.std.specs.Prelude.{Option, None, Some, Result, Ok, Err, codes, length}
 use Rattle.std.specs.List.{starts_with}
 use Rattle.ssim_program.specs.Files.{Files, file_of}

@@ -1,6 +1,7 @@
 -- What becomes of the texts of mailbox files that a desk receives, and what is printed and kept of
 -- them.
-use Rattle.std.specs.Prelude.{◌≡◌, ◌⊎◌, ℕ, ◌+◌, ◌-◌, Bool, true, false, IfSome, List, [], ◌∷◌, ◌++◌, Option}
+use Rattle.std.specs.Prelude.{◌≡◌, ◌⊎◌, ℕ, ◌+◌, ◌-◌, Bool, true, false, IfSome, List, [], ◌∷◌, ◌++◌}
+use Rattle.std.specs.Prelude.{Option}
 use Rattle.std.specs.Prelude.{Some, None, codes, length, nat_le, if◌then◌else◌}
 use Rattle.std.specs.Fmt.{decimal}
 use Rattle.std.specs.List.{count_by, flat_map, list_any}
@@ -26,7 +27,8 @@ use Rattle.ssim_program.specs.Made.{HasFile, IsMissing, file_limit}
 use Rattle.ssim_program.specs.Places.{MayReplace}
 use Rattle.ssim_program.specs.print.Names.{printed_name}
 use Rattle.ssim_program.specs.print.PrintedLine.{printed_text}
-use Rattle.ssim_program.specs.print.Refusal.{SaysOccupied, place_text, refusal_head, refusal_of_desk, refusal_place}
+use Rattle.ssim_program.specs.print.Refusal.{SaysOccupied, place_text, refusal_head}
+use Rattle.ssim_program.specs.print.Refusal.{refusal_of_desk, refusal_place}
 use Rattle.ssim_program.specs.declared.content_kind.ContentKind.TheVariants as kind
 use Rattle.ssim_program.specs.declared.refusal.Refusal.{Refusal}
 

@@ -1,5 +1,6 @@
 -- Lists of periods, one for each number from 1 on.
-use Rattle.std.specs.Prelude.{◌≡◌, ℕ, ◌+◌, Bool, ◌&&◌, ◌||◌, nat_eq, nat_le, nat_lt, Some, List, length, slice_get, slice_index_or}
+use Rattle.std.specs.Prelude.{◌≡◌, ℕ, ◌+◌, Bool, ◌&&◌, ◌||◌, nat_eq, nat_le, nat_lt, Some, List}
+use Rattle.std.specs.Prelude.{length, slice_get, slice_index_or}
 use Rattle.ssim_values.specs.Period.{DayRange}
 use Rattle.ssim_periods.specs.Calendar.{slot}
 use Rattle.ssim_periods.specs.internal.Apart.{is_held}

@@ -1,7 +1,9 @@
 //! The periods of the days with each number.
-ghost use Rattle.std.specs.Prelude.{◌≡◌, ℕ, ◌+◌, ◌<◌, ◌≤◌, ◌&&◌, [], length, map, nat_eq, replicate, slice_index_or, IfOk, OnOk};
+ghost use Rattle.std.specs.Prelude.{◌≡◌, ℕ, ◌+◌, ◌<◌, ◌≤◌, ◌&&◌, [], length, map, nat_eq};
+ghost use Rattle.std.specs.Prelude.{replicate, slice_index_or, IfOk, OnOk};
 ghost use Rattle.ssim_periods.specs.Calendar.{holds, slot};
-ghost use Rattle.ssim_periods.specs.internal.Numbers.{is_between, is_numbered_in, is_numbered_on, AddsDays, HaveDays};
+ghost use Rattle.ssim_periods.specs.internal.Numbers.{is_between, is_numbered_in, is_numbered_on};
+ghost use Rattle.ssim_periods.specs.internal.Numbers.{AddsDays, HaveDays};
 
 use crate::cover::period_of;
 use crate::cover::union::join;

@@ -8,7 +8,8 @@ use Rattle.ssim_command_line.specs.Line.{Text, Take}
 use Rattle.ssim_program.specs.Files.{Files, file_of}
 use Rattle.ssim_program.specs.Offices.{Began, Brought, Done, Event, IsSaidTo, Withdrew}
 use Rattle.ssim_program.specs.Turns.{AllLeaveMessage, AreAllowed, BroughtInTurn, Comes, Ends, Holds}
-use Rattle.ssim_program.specs.Turns.{Keeps, LeavesMessage, MakesFile, Reads, Step, files_after, holder_of, read_by}
+use Rattle.ssim_program.specs.Turns.{Keeps, LeavesMessage, MakesFile, Reads, Step, files_after}
+use Rattle.ssim_program.specs.Turns.{holder_of, read_by}
 
 abbrev desk : Text
 desk = codes "fdh.desk"

@@ -12,7 +12,8 @@ use Rattle.ssim_base.specs.declared.note.Note.{Note}
 use Rattle.ssim_values.specs.Flight.{FlightNumber}
 use Rattle.ssim_held.specs.Entries.{DeskSeen}
 use Rattle.ssim_desk.specs.Desk.{days_of_desk}
-use Rattle.ssim_program.specs.Desks.{ReadsDesk, RefusesDeskFile, RefusesFlight, RefusesHold, RefusesMerge, RefusesTexts}
+use Rattle.ssim_program.specs.Desks.{ReadsDesk, RefusesDeskFile, RefusesFlight, RefusesHold}
+use Rattle.ssim_program.specs.Desks.{RefusesMerge, RefusesTexts}
 use Rattle.ssim_program.specs.Boards.{RefusesBoard}
 use Rattle.ssim_program.specs.Differences.{RefusesComparison}
 use Rattle.ssim_program.specs.Files.{Files}
