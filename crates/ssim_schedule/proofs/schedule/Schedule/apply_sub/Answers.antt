@@ -5,7 +5,7 @@ use Rattle.ssim_schedule.specs.Schedule.{Flown, cuts_in, days_in}
 use Rattle.ssim_schedule.specs.internal.Table.{table_cuts}
 use Rattle.ssim_base.specs.Timetable.{on_day}
 use Rattle.ssim_schedule.proofs.InOrder.{date_after, timetable-kept}
-use Rattle.ssim_schedule.proofs.schedule.Schedule.apply_by.Goals as goal
+use Rattle.ssim_schedule.proofs.schedule.Schedule.apply_sub.Goals as goal
 
 pub invariant_of-self-2 : goal.invariant_of-self-2
 invariant_of-self-2 c =
