@@ -21,8 +21,7 @@ use crate::effect::division_points::{lines_of, next_point};
 use crate::effect::sub_message_change::SubMessageChange;
 use crate::finding::Finding;
 use crate::schedule::Schedule;
-use crate::timetable::flight_blocks::FlightBlocks;
-use crate::timetable::flight_table::place;
+use crate::timetable::flight_table::{FlightTable, place};
 use ssim_base::{Resolved, StationRow};
 use ssim_text::Action;
 use ssim_values::{Flight, Memory, Period};
@@ -76,7 +75,7 @@ impl Schedule {
     }
 }
 
-impl FlightBlocks {
+impl FlightTable {
     // Acts at once if the effect is the same on all days of the period, else on a copy of the
     // flight's periods, which replaces them after the last part.
     fn act(

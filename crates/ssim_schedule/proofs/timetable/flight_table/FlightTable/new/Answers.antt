@@ -4,7 +4,7 @@ use Rattle.std.proofs.lemmas.List.{length-replicate}
 use Rattle.ssim_schedule.specs.internal.Blocks.{AreBlocks}
 use Rattle.ssim_schedule.specs.internal.Table.{Table}
 use Rattle.ssim_schedule.proofs.BlockLemmas.{blocks_empty}
-use Rattle.ssim_schedule.proofs.timetable.flight_blocks.FlightBlocks.new.Goals as goal
+use Rattle.ssim_schedule.proofs.timetable.flight_table.FlightTable.new.Goals as goal
 
 pub invariant_of-result : goal.invariant_of-result
 invariant_of-result c =

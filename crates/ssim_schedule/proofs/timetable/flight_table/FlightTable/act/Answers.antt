@@ -12,7 +12,7 @@ use Rattle.ssim_base.specs.Timetable.{Days}
 use Rattle.ssim_schedule.proofs.Acts.{counts_made, days_made}
 use Rattle.ssim_schedule.proofs.Applied.{cuts_at_ends, cuts_put, days_put}
 use Rattle.ssim_base.proofs.Results.{if_ok, on_ok}
-use Rattle.ssim_schedule.proofs.timetable.flight_blocks.FlightBlocks.act.Goals as goal
+use Rattle.ssim_schedule.proofs.timetable.flight_table.FlightTable.act.Goals as goal
 
 pub returns-then-is_uniform-clause-days : goal.returns-then-is_uniform-clause-days
 returns-then-is_uniform-clause-days c =
