@@ -108,14 +108,13 @@ module _ (desk : DeskState) (text : List ℕ) (m : MessageValue) (resolved : Res
   in_conflict other holds apart = record { message = m; says = says; other = other; holds = holds; apart = apart }
 
 -- a message that is held already
-pub known : (desk : DeskState) (text : List ℕ) (reference : Reference) → (message : MessageValue) × Says desk.base text reference message × Holds desk reference message → IsKnown desk text
-known desk text reference k = record { reference = reference; message = k.0; says = k.1; holds = k.2 }
+pub known : (desk : DeskState) (text : List ℕ) (reference : Reference) → (message : MessageValue) × Says desk.base text reference message × Holds desk reference message → IsKnown desk text reference
+known desk text reference k = record { message = k.0; says = k.1; holds = k.2 }
 
 -- a message is new if it has a gap, and is held when it is put there
 pub is_new : (desk : DeskSeen) (text : List ℕ) (e : Entry) (at : ℕ) (held : List Entry) → AreRising desk.held → Belongs desk.held e.reference at at → Says desk.base text e.reference e.message
-    → held ≡ take at desk.held ++ (e ∷ drop at desk.held) → IsNew (state_of desk) text (map_of held)
+    → held ≡ take at desk.held ++ (e ∷ drop at desk.held) → IsNew (state_of desk) text e.reference (map_of held)
 is_new desk text e at held rising gap says is = record {
-  reference = e.reference;
   message = e.message;
   says = says;
   absent = not_held desk.held at e.reference rising gap;

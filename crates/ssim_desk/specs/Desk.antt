@@ -37,15 +37,10 @@ pub record ScheduledDesk : Type 0 where
   pub schedule : Flown
 
 -- the `Answer` for a result of `take`
-abbrev pub take_answer : Result Took DeskFault → Answer
-take_answer (Ok took.Taken) = Taken
-take_answer (Ok took.Repeated) = Repeated
+abbrev pub take_answer : Result (Took × Reference) DeskFault → Answer
+take_answer (Ok (took.Taken, reference)) = Taken reference
+take_answer (Ok (took.Repeated, reference)) = Repeated reference
 take_answer (Err fault) = Refused fault
-
--- the `Answer` for a result of `take` that has the reference of the message, too
-abbrev pub took_answer : Result (Took × Reference) DeskFault → Answer
-took_answer (Ok taken) = take_answer (Ok taken.0)
-took_answer (Err fault) = Refused fault
 
 -- the `Answer` for a result of `merge`
 abbrev pub merge_answer : Result (Unit {0}) DeskFault → Answer

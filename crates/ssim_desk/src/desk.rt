@@ -7,6 +7,7 @@ ghost use Rattle.ssim_values.specs.Calendar.{weekday};
 ghost use Rattle.ssim_schedule.specs.ExportResult.{ReadsBackBase, RefusesBase, WritesBase};
 ghost use Rattle.ssim_schedule.specs.Schedule.{cuts_in};
 ghost use Rattle.ssim_base.specs.Sinks.{Puts};
+ghost use Rattle.ssim_text.specs.declared.reference.Reference.{Reference};
 ghost use Rattle.ssim_held.specs.File.{CanBeSaved, desk_file};
 ghost use Rattle.ssim_held.specs.Opening.{Opens, RefusesOpening};
 ghost use Rattle.ssim_held.specs.Entries.{AreEntries, AreRising, IsEntry, map_of, state_of};
@@ -27,6 +28,7 @@ use ssim_base::{Base, WriteFault};
 use ssim_held::{DeskFault, Held};
 use ssim_records::{Sink, Source};
 use ssim_schedule::{ExportFault, PlacedLeg};
+use ssim_text::Reference;
 use ssim_values::{Day, Flight, Memory};
 use std::alloc::Global;
 use std::marker::Model;
@@ -121,25 +123,28 @@ impl Desk {
         self.schedules.applied
     }
 
-    /// Takes a text: holds its message if it is new.
+    /// Takes a text: holds its message if it is new. Returns the message's reference, too.
     ///
-    /// Returns the first of: 20 to 29 if the text is no message, 40 to 43 if the message does not
+    /// The errors are the first of: 20 to 29 if the text is no message, 40 to 43 if the message does not
     /// resolve, 60 if another message is held under its reference. The desk changes only if the
     /// message was new.
-    pub fn take(&mut self, text: &[u8]) -> Result<Took, DeskFault>
+    pub fn take(&mut self, text: &[u8]) -> Result<(Took, Reference), DeskFault>
         ensures takes { Takes (state_of self.old.seen) text.now (take_answer result)
             (map_of self.new.seen.held) }
         ensures base { self.new.seen.base ≡ self.old.seen.base }
-        ensures taken { result ≡ Ok Took.Taken → IsReplayed self.old.seen self.new.seen }
-        ensures repeated { result ≡ Ok Took.Repeated → self.new ≡ self.old }
+        ensures taken { (reference : Reference) → result ≡ Ok (Took.Taken, reference)
+            → IsReplayed self.old.seen self.new.seen }
+        ensures repeated { (reference : Reference) → result ≡ Ok (Took.Repeated, reference)
+            → self.new ≡ self.old }
         ensures err { OnErr result (self.new ≡ self.old) }
     {
         let offered = self.holdings.offer(text)?;
         match offered {
-            Offer::Known(_) => Ok(Took::Repeated),
+            Offer::Known(reference) => Ok((Took::Repeated, reference)),
             Offer::New(at, new) => {
+                let reference = new.reference();
                 self.insert(at, new)?;
-                Ok(Took::Taken)
+                Ok((Took::Taken, reference))
             }
         }
     }

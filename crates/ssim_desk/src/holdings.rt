@@ -8,9 +8,8 @@ ghost use Rattle.ssim_schedule.specs.FlightPieces.{divided_among, divided_flight
 ghost use Rattle.ssim_schedule.specs.ExportResult.{ReadsBackBase, RefusesBase, WritesBase};
 ghost use Rattle.ssim_base.specs.Sinks.{Puts};
 ghost use Rattle.ssim_held.specs.File.{CanBeSaved, desk_file};
-ghost use Rattle.ssim_text.specs.Message.{MessageValue};
 ghost use Rattle.ssim_text.specs.declared.reference.Reference.{Reference};
-ghost use Rattle.ssim_held.specs.Held.{Agree, Says};
+ghost use Rattle.ssim_held.specs.Held.{Agree};
 ghost use Rattle.ssim_held.specs.Entries.{AreEntries, AreRising, IsEntry, map_of, state_of};
 ghost use Rattle.ssim_held.specs.Opening.{Opens, RefusesOpening};
 ghost use Rattle.ssim_held.specs.Ordered.{Belongs};
@@ -19,7 +18,7 @@ ghost use Rattle.ssim_schedule.specs.Schedule.{days_in};
 ghost use Rattle.ssim_values.specs.Flight.{FlightNumber, IsFlight};
 ghost use Rattle.ssim_desk.specs.DateSteps.{legs_left, steps_on};
 ghost use Rattle.ssim_desk.specs.Desk.{WritesDesk, days_of_desk, finding_lines, merge_answer};
-ghost use Rattle.ssim_desk.specs.Desk.{timetable_of, took_answer};
+ghost use Rattle.ssim_desk.specs.Desk.{take_answer, timetable_of};
 ghost use Rattle.ssim_desk.specs.Meaning.{Finds, Means, Timetable, found_by};
 ghost use Rattle.ssim_desk.specs.internal.Changes.{IsChange, IsOffer};
 ghost use Rattle.ssim_desk.specs.Steps.{Merges, RefusesDesk, RefusesText, Takes};
@@ -142,10 +141,8 @@ impl Holdings {
     ///
     /// It moves all messages of greater references. [`crate::Intake`] takes many texts in any order.
     pub fn take(&mut self, text: &[u8]) -> Result<(Took, Reference), DeskFault>
-        ensures takes { Takes (state_of self.old) text.now (took_answer result)
+        ensures takes { Takes (state_of self.old) text.now (take_answer result)
             (map_of self.new.held) }
-        ensures says { IfOk result
-            (λ taken. (message : MessageValue) × Says self.old.base text.now taken.1 message) }
         ensures base { self.new.base ≡ self.old.base }
         ensures repeated { (reference : Reference) → result ≡ Ok (Took.Repeated, reference)
             → self.new ≡ self.old }
