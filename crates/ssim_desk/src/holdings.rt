@@ -25,8 +25,8 @@ ghost use Rattle.ssim_desk.specs.Steps.{Merges, RefusesDesk, RefusesText, Takes}
 
 use crate::date_step::{DateHistory, history_of};
 use crate::desk::Took;
-use crate::finding_line::{FindingLine, push_lines};
-use crate::flights::{act_between, days_after, found_by, legs_after, pieces_after};
+use crate::finding_line::FindingLine;
+use crate::flights::{act_between, days_after, legs_after, lines_found, pieces_after};
 use crate::message_effect::act_in_order;
 use crate::offer::{Offer, offer_over};
 use ssim_base::{Base, DataSet, Stations, WriteFault};
@@ -258,10 +258,7 @@ impl Holdings {
         ensures finds { IfOk result
             (λ lines. Finds (state_of self.now) (found_by self.now.base self.now.held)) }
     {
-        let found = found_by(self.alloc, &self.base, &self.held)?;
-        let mut lines = Vec::new(self.alloc);
-        push_lines(&mut lines, &self.held, &found)?;
-        Ok(lines)
+        lines_found(self.alloc, &self.base, &self.held)
     }
 
     /// What the data set has for a flight on a date of origin, and what each sub-message that is
@@ -403,8 +400,8 @@ impl Holdings {
     }
 }
 
-// Equal messages, which share their contents.
-fn copies(alloc: Global, messages: &[Held]) -> Result<Vec<Held>, Memory>
+/// Equal messages, which share their contents.
+pub(crate) fn copies(alloc: Global, messages: &[Held]) -> Result<Vec<Held>, Memory>
     ensures { IfOk result (λ copies. copies.items ≡ messages.now) }
 {
     let mut copies = Vec::with_capacity(alloc, messages.len())?;
