@@ -74,8 +74,8 @@ impl Desks {
     pub fn take(&mut self, place: &str, text: &[u8], out: &mut Vec<u8>) -> Result<(), Fault> {
         let desk = self.desks.get_mut(place_of(place)?).ok_or(Fault::Line)?;
         match desk.take(text) {
-            Ok(Took::Taken) => push_line(out, "taken"),
-            Ok(Took::Repeated) => push_line(out, "repeated"),
+            Ok((Took::Taken, _)) => push_line(out, "taken"),
+            Ok((Took::Repeated, _)) => push_line(out, "repeated"),
             Err(fault) => push_refused(out, &Refusal::Desk(fault)),
         }
     }
@@ -182,8 +182,8 @@ pub fn base_of(alloc: Global, data_set: &[u8], table: &[u8]) -> Result<Base, Fau
 fn print_answers(answers: &[Answer], out: &mut Vec<u8>) -> Result<(), Fault> {
     for answer in answers {
         match answer {
-            Answer::Taken => push_line(out, "step taken")?,
-            Answer::Repeated => push_line(out, "step repeated")?,
+            Answer::Taken(_) => push_line(out, "step taken")?,
+            Answer::Repeated(_) => push_line(out, "step repeated")?,
             Answer::Merged => push_line(out, "step merged")?,
             Answer::Refused(fault) => {
                 push(out, "step ")?;

@@ -1,11 +1,10 @@
 -- What a text and a merge make of a desk.
-use Rattle.std.proofs.Common.{◌≡◌, ◌≢◌, ◌≤◌, ◌+◌, ◌-◌, ℕ, List, [], ◌∷◌, ◌++◌, length, take, drop, Some, None, slice_get, refl, sym, ap, subst, ◌∙◌, append_assoc, arith, length-append}
+use Rattle.std.proofs.Common.{◌≡◌, ◌≢◌, ◌≤◌, ◌-◌, ℕ, List, [], ◌∷◌, ◌++◌, length, take, drop, Some, None, slice_get, refl, sym, ap, ◌∙◌, arith, length-append}
 use Rattle.std.proofs.lemmas.Grind.{common_steps}
 use Rattle.std.proofs.lemmas.List.{length-take, take-append-le, take_all}
 use Rattle.std.proofs.lemmas.List.Elements.{All-append, All-cons, All-drop, All-take}
 use Rattle.std.specs.FinMap.{get}
 use Rattle.ssim_records.specs.declared.record.Record.{Record}
-use Rattle.ssim_base.specs.BaseSeen.{BaseSeen}
 use Rattle.ssim_base.specs.Resolve.{IsRefusedIn, ResolvesIn}
 use Rattle.ssim_base.specs.declared.resolution.ResolveFault.{ResolveFault}
 use Rattle.ssim_base.specs.declared.resolution.ResolveFault.TheVariants as resolve_fault
@@ -22,37 +21,17 @@ use Rattle.ssim_held.specs.Entries.{AreEntries, AreRising, DeskSeen, Entry, IsEn
 use Rattle.ssim_held.specs.Ordered.{Belongs}
 use Rattle.ssim_held.proofs.Entries.{map_of_with, not_held, rising_with}
 use Rattle.ssim_desk.specs.Desk.{IsReplayed}
-use Rattle.ssim_desk.specs.internal.Changes.{IsReplaced, IsReplay}
-use Rattle.ssim_desk.specs.declared.replay.Replay.{Replay}
+use Rattle.ssim_desk.specs.internal.Changes.{IsReplaced}
 use Rattle.ssim_desk.specs.Steps.{IsInConflict, IsKnown, IsNew, RefusesText}
 
 -- ---- messages that are replaced
 
--- the messages from a position on are replaced, once as many were applied
-pub replaced : (old new : DeskSeen) (at : ℕ) (rest : List Entry) (base : BaseSeen) (r : Replay) → at ≤ length old.held → r.from ≤ at → at ≤ r.from + 31
-    → IsReplay base (take at old.held ++ rest) r → new.base ≡ old.base → new.held ≡ take at old.held ++ rest → new.applied ≡ r.applied → IsReplaced old at rest new
-replaced old new at rest base r place low near replay base_is held_is applied_is =
-    let all : r.applied + r.from ≡ at + length rest = omega (arith, place, replay.counted, length-append (take at old.held) rest, length-take at old.held) in
-    record {
-      base = base_is;
-      held = held_is;
-      at_least = omega (arith, applied_is, all, low);
-      at_most = omega (arith, applied_is, all, near);
-      whole = λ none. omega (arith, applied_is, all, low, none);
-    }
-
--- the messages before a position, one more, and those from the position on are replayed
-pub inserted_replay : (b base : BaseSeen) (hs held : List Entry) (at : ℕ) (new : Entry) (r : Replay)
-    → b ≡ base → hs ≡ held
-    → IsReplay b ((take at hs ++ new ∷ []) ++ take (length hs - at) (drop at hs)) r
-    → IsReplay base (take at held ++ new ∷ drop at held) r
-inserted_replay b base hs held at new r base_is held_is applied =
+-- the new message and those from its position on
+pub rest_of : (hs held : List Entry) (at : ℕ) (new : Entry) (rest all : List Entry) → hs ≡ held
+    → rest ≡ take (length hs - at) (drop at hs) → all ≡ new ∷ rest → all ≡ new ∷ drop at held
+rest_of hs held at new rest all same rest_is all_is =
     let left : take (length hs - at) (drop at hs) ≡ drop at hs = grind (arith, common_steps) in
-    let whole = append_assoc (take at hs) (new ∷ []) (take (length hs - at) (drop at hs))
-    ∙ ap (λ (es : List Entry). take at hs ++ new ∷ es) left in
-    subst (λ (es : List Entry). IsReplay base (take at es ++ new ∷ drop at es) r) held_is
-    (subst (λ (x : BaseSeen). IsReplay x (take at hs ++ new ∷ drop at hs) r) base_is
-    (subst (λ (es : List Entry). IsReplay b es r) whole applied))
+    all_is ∙ ap (λ (es : List Entry). new ∷ es) (rest_is ∙ left ∙ ap (drop at) same)
 
 pub inserted_entries : (records : List Record) (es : List Entry) (at : ℕ) (new : Entry) → AreEntries records es → Belongs es new.reference at at → IsEntry records new
     → AreEntries records (take at es ++ (new ∷ drop at es))
@@ -108,14 +87,13 @@ module _ (desk : DeskState) (text : List ℕ) (m : MessageValue) (resolved : Res
   in_conflict other holds apart = record { message = m; says = says; other = other; holds = holds; apart = apart }
 
 -- a message that is held already
-pub known : (desk : DeskState) (text : List ℕ) (reference : Reference) → (message : MessageValue) × Says desk.base text reference message × Holds desk reference message → IsKnown desk text
-known desk text reference k = record { reference = reference; message = k.0; says = k.1; holds = k.2 }
+pub known : (desk : DeskState) (text : List ℕ) (reference : Reference) → (message : MessageValue) × Says desk.base text reference message × Holds desk reference message → IsKnown desk text reference
+known desk text reference k = record { message = k.0; says = k.1; holds = k.2 }
 
 -- a message is new if it has a gap, and is held when it is put there
 pub is_new : (desk : DeskSeen) (text : List ℕ) (e : Entry) (at : ℕ) (held : List Entry) → AreRising desk.held → Belongs desk.held e.reference at at → Says desk.base text e.reference e.message
-    → held ≡ take at desk.held ++ (e ∷ drop at desk.held) → IsNew (state_of desk) text (map_of held)
+    → held ≡ take at desk.held ++ (e ∷ drop at desk.held) → IsNew (state_of desk) text e.reference (map_of held)
 is_new desk text e at held rising gap says is = record {
-  reference = e.reference;
   message = e.message;
   says = says;
   absent = not_held desk.held at e.reference rising gap;

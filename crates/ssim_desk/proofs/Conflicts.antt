@@ -70,8 +70,8 @@ spells_none base text (text_fault.Refused fault line) r m says un = un.0 m says.
 -- a text that says a message is accepted, unless it is in conflict or memory is refused
 taken_or_not : OneMessage → HasOneOutcome → (desk : DeskState) (text : List ℕ) (answer : Answer) (held : HeldMessages) (r : Reference) (m : MessageValue) → Says desk.base text r m → Takes desk text answer held
     → answer ≢ Refused Memory → ((q : Reference) → answer ≡ Refused (Conflict q) → ⊥) → is_accepted answer ≡ true
-taken_or_not one outcome desk text Taken held r m says takes memory clash = refl
-taken_or_not one outcome desk text Repeated held r m says takes memory clash = refl
+taken_or_not one outcome desk text (Taken reference) held r m says takes memory clash = refl
+taken_or_not one outcome desk text (Repeated reference) held r m says takes memory clash = refl
 taken_or_not one outcome desk text Merged held r m says takes memory clash = absurd takes
 taken_or_not one outcome desk text (Refused Memory) held r m says takes memory clash = absurd (memory refl)
 taken_or_not one outcome desk text (Refused (Text fault)) held r m says takes memory clash = absurd (spells_none desk.base text fault r m says takes.0)

@@ -1,5 +1,5 @@
 -- What a desk shows is what its messages mean.
-use Rattle.std.proofs.Common.{◌≡◌, ℕ, ◌<◌, IfErr, List, [], OnOk, Option, Result, Ok, Err, slice_index_or, refl, sym, ap, ◌∙◌}
+use Rattle.std.proofs.Common.{◌≡◌, ℕ, ◌<◌, IfErr, List, [], OnOk, Result, Ok, Err, slice_index_or, refl, sym, ap, ◌∙◌}
 use Rattle.std.proofs.lemmas.List.Elements.{All-weaker}
 use Rattle.ssim_records.specs.Device.{Writer}
 use Rattle.ssim_periods.proofs.DayLemmas.{day_count-is}

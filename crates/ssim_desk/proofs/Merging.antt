@@ -42,8 +42,8 @@ one_least m n q r of_q of_r = by (reference_cmp q r) refl
 
 as_union : (mine theirs : DeskState) (b : Answer) (y : HeldMessages) → mine.base ≡ theirs.base → Agree mine.held theirs.held → Merges mine theirs b y → b ≢ Refused Memory
     → (b ≡ Merged) × (y ≡ union mine.held theirs.held)
-as_union mine theirs Taken y base agree is memory = absurd is
-as_union mine theirs Repeated y base agree is memory = absurd is
+as_union mine theirs (Taken t) y base agree is memory = absurd is
+as_union mine theirs (Repeated t) y base agree is memory = absurd is
 as_union mine theirs Merged y base agree is memory = (refl, is.all)
 as_union mine theirs (Refused Memory) y base agree is memory = absurd (memory refl)
 as_union mine theirs (Refused (Text fault)) y base agree is memory = absurd is.0
@@ -55,8 +55,8 @@ as_union mine theirs (Refused (File offset)) y base agree is memory = absurd is.
 
 as_clash : (mine theirs : DeskState) (r : Reference) (b : Answer) (y : HeldMessages) → mine.base ≡ theirs.base → IsLeastConflict mine.held theirs.held r → Merges mine theirs b y → b ≢ Refused Memory
     → (b ≡ Refused (Conflict r)) × (y ≡ mine.held)
-as_clash mine theirs r Taken y base clash is memory = absurd is
-as_clash mine theirs r Repeated y base clash is memory = absurd is
+as_clash mine theirs r (Taken t) y base clash is memory = absurd is
+as_clash mine theirs r (Repeated t) y base clash is memory = absurd is
 as_clash mine theirs r Merged y base clash is memory = absurd (no_difference mine.held theirs.held r is.agree clash.differ)
 as_clash mine theirs r (Refused Memory) y base clash is memory = absurd (memory refl)
 as_clash mine theirs r (Refused (Text fault)) y base clash is memory = absurd is.0
@@ -67,8 +67,8 @@ as_clash mine theirs r (Refused (Read fault)) y base clash is memory = absurd is
 as_clash mine theirs r (Refused (File offset)) y base clash is memory = absurd is.0
 
 as_other : (mine theirs : DeskState) (b : Answer) (y : HeldMessages) → mine.base ≢ theirs.base → Merges mine theirs b y → b ≢ Refused Memory → (b ≡ Refused OtherBase) × (y ≡ mine.held)
-as_other mine theirs Taken y apart is memory = absurd is
-as_other mine theirs Repeated y apart is memory = absurd is
+as_other mine theirs (Taken t) y apart is memory = absurd is
+as_other mine theirs (Repeated t) y apart is memory = absurd is
 as_other mine theirs Merged y apart is memory = absurd (apart is.base)
 as_other mine theirs (Refused Memory) y apart is memory = absurd (memory refl)
 as_other mine theirs (Refused (Text fault)) y apart is memory = absurd is.0
@@ -82,8 +82,8 @@ both : {A B : Type 0} {a b c : A} {x y z : B} → (b ≡ a) × (y ≡ x) → c �
 both of first second = (first ∙ sym of.0, second ∙ sym of.1)
 
 pub merges_are_determined : MergesAreDetermined
-merges_are_determined mine theirs Taken b x y is_a is_b memory_a memory_b = absurd is_a
-merges_are_determined mine theirs Repeated b x y is_a is_b memory_a memory_b = absurd is_a
+merges_are_determined mine theirs (Taken t) b x y is_a is_b memory_a memory_b = absurd is_a
+merges_are_determined mine theirs (Repeated t) b x y is_a is_b memory_a memory_b = absurd is_a
 merges_are_determined mine theirs Merged b x y is_a is_b memory_a memory_b = both (as_union mine theirs b y is_a.base is_a.agree is_b memory_b) refl is_a.all
 merges_are_determined mine theirs (Refused Memory) b x y is_a is_b memory_a memory_b = absurd (memory_a refl)
 merges_are_determined mine theirs (Refused (Text fault)) b x y is_a is_b memory_a memory_b = absurd is_a.0
@@ -156,48 +156,49 @@ module _ (one : OneMessage) (refusals : OneRefusal) (outcome : HasOneOutcome) (d
   some_none : (r : Reference) (x : MessageValue) → get desk.held r ≡ None → Holds desk r x → ⊥
   some_none r x absent holds = let never : None ≡ Some x = sym absent ∙ holds in absurd cc
 
-  as_new : (b : Answer) (x y : HeldMessages) → IsNew desk text x → Takes desk text b y → b ≢ Refused Memory → (b ≡ Taken) × (y ≡ x)
-  as_new Taken x y new is memory =
-      let reference = says_reference one desk.base text is.reference new.reference is.message new.message is.says new.says in
-      let message = says_message one desk.base text is.reference new.reference is.message new.message is.says new.says in
-      (refl, is.added ∙ (λ i. insert desk.held (reference i) (message i)) ∙ sym new.added)
-  as_new Repeated x y new is memory =
+  as_new : (r : Reference) (b : Answer) (x y : HeldMessages) → IsNew desk text r x → Takes desk text b y → b ≢ Refused Memory → (b ≡ Taken r) × (y ≡ x)
+  as_new r (Taken q) x y new is memory =
+      let reference = says_reference one desk.base text q r is.message new.message is.says new.says in
+      let message = says_message one desk.base text q r is.message new.message is.says new.says in
+      (ap (λ k. Taken k) reference, is.added ∙ (λ i. insert desk.held (reference i) (message i)) ∙ sym new.added)
+  as_new r (Repeated q) x y new is memory =
       let known = is.0 in
-      absurd (some_none new.reference known.message new.absent (held_there new.reference known.reference new.message known.message known.message new.says known.says known.holds))
-  as_new Merged x y new is memory = absurd is
-  as_new (Refused Memory) x y new is memory = absurd (memory refl)
-  as_new (Refused (Text fault)) x y new is memory = absurd (not_spelt new.message fault new.says.spelt is.0)
-  as_new (Refused (Resolve fault)) x y new is memory = absurd (not_unresolved new.reference new.message fault new.says is.0)
-  as_new (Refused (Conflict q)) x y new is memory =
+      absurd (some_none r known.message new.absent (held_there r q new.message known.message known.message new.says known.says known.holds))
+  as_new r Merged x y new is memory = absurd is
+  as_new r (Refused Memory) x y new is memory = absurd (memory refl)
+  as_new r (Refused (Text fault)) x y new is memory = absurd (not_spelt new.message fault new.says.spelt is.0)
+  as_new r (Refused (Resolve fault)) x y new is memory = absurd (not_unresolved r new.message fault new.says is.0)
+  as_new r (Refused (Conflict q)) x y new is memory =
       let clash = is.0 in
-      absurd (some_none new.reference clash.other new.absent (held_there new.reference q new.message clash.message clash.other new.says clash.says clash.holds))
-  as_new (Refused OtherBase) x y new is memory = absurd is.0
-  as_new (Refused (Read fault)) x y new is memory = absurd is.0
-  as_new (Refused (File offset)) x y new is memory = absurd is.0
+      absurd (some_none r clash.other new.absent (held_there r q new.message clash.message clash.other new.says clash.says clash.holds))
+  as_new r (Refused OtherBase) x y new is memory = absurd is.0
+  as_new r (Refused (Read fault)) x y new is memory = absurd is.0
+  as_new r (Refused (File offset)) x y new is memory = absurd is.0
 
-  not_both : (q : Reference) → IsKnown desk text → IsInConflict desk text q → ⊥
-  not_both q known clash =
-      let there = held_there q known.reference clash.message known.message known.message clash.says known.says known.holds in
-      let message = says_message one desk.base text q known.reference clash.message known.message clash.says known.says in
+  not_both : (r q : Reference) → IsKnown desk text r → IsInConflict desk text q → ⊥
+  not_both r q known clash =
+      let there = held_there q r clash.message known.message known.message clash.says known.says known.holds in
+      let message = says_message one desk.base text q r clash.message known.message clash.says known.says in
       clash.apart (some_of clash.other known.message (sym clash.holds ∙ there) ∙ sym message)
 
-  as_known : (b : Answer) (y : HeldMessages) → IsKnown desk text → Takes desk text b y → b ≢ Refused Memory → (b ≡ Repeated) × (y ≡ desk.held)
-  as_known Taken y known is memory =
-      absurd (some_none is.reference known.message is.absent (held_there is.reference known.reference is.message known.message known.message is.says known.says known.holds))
-  as_known Repeated y known is memory = (refl, is.1)
-  as_known Merged y known is memory = absurd is
-  as_known (Refused Memory) y known is memory = absurd (memory refl)
-  as_known (Refused (Text fault)) y known is memory = absurd (not_spelt known.message fault known.says.spelt is.0)
-  as_known (Refused (Resolve fault)) y known is memory = absurd (not_unresolved known.reference known.message fault known.says is.0)
-  as_known (Refused (Conflict q)) y known is memory = absurd (not_both q known is.0)
-  as_known (Refused OtherBase) y known is memory = absurd is.0
-  as_known (Refused (Read fault)) y known is memory = absurd is.0
-  as_known (Refused (File offset)) y known is memory = absurd is.0
+  as_known : (r : Reference) (b : Answer) (y : HeldMessages) → IsKnown desk text r → Takes desk text b y → b ≢ Refused Memory → (b ≡ Repeated r) × (y ≡ desk.held)
+  as_known r (Taken q) y known is memory =
+      absurd (some_none q known.message is.absent (held_there q r is.message known.message known.message is.says known.says known.holds))
+  as_known r (Repeated q) y known is memory =
+      let other = is.0 in (ap (λ k. Repeated k) (says_reference one desk.base text q r other.message known.message other.says known.says), is.1)
+  as_known r Merged y known is memory = absurd is
+  as_known r (Refused Memory) y known is memory = absurd (memory refl)
+  as_known r (Refused (Text fault)) y known is memory = absurd (not_spelt known.message fault known.says.spelt is.0)
+  as_known r (Refused (Resolve fault)) y known is memory = absurd (not_unresolved r known.message fault known.says is.0)
+  as_known r (Refused (Conflict q)) y known is memory = absurd (not_both r q known is.0)
+  as_known r (Refused OtherBase) y known is memory = absurd is.0
+  as_known r (Refused (Read fault)) y known is memory = absurd is.0
+  as_known r (Refused (File offset)) y known is memory = absurd is.0
 
   as_conflict : (r : Reference) (b : Answer) (y : HeldMessages) → IsInConflict desk text r → Takes desk text b y → b ≢ Refused Memory → (b ≡ Refused (Conflict r)) × (y ≡ desk.held)
-  as_conflict r Taken y clash is memory =
-      absurd (some_none is.reference clash.other is.absent (held_there is.reference r is.message clash.message clash.other is.says clash.says clash.holds))
-  as_conflict r Repeated y clash is memory = absurd (not_both r is.0 clash)
+  as_conflict r (Taken q) y clash is memory =
+      absurd (some_none q clash.other is.absent (held_there q r is.message clash.message clash.other is.says clash.says clash.holds))
+  as_conflict r (Repeated q) y clash is memory = absurd (not_both q r is.0 clash)
   as_conflict r Merged y clash is memory = absurd is
   as_conflict r (Refused Memory) y clash is memory = absurd (memory refl)
   as_conflict r (Refused (Text fault)) y clash is memory = absurd (not_spelt clash.message fault clash.says.spelt is.0)
@@ -217,8 +218,8 @@ module _ (one : OneMessage) (refusals : OneRefusal) (outcome : HasOneOutcome) (d
       λ i. text_fault.Refused (both.0 i) (both.1 i)
 
   as_unspelt : (f : TextFault) (b : Answer) (y : HeldMessages) → IsUnspelt text f → Takes desk text b y → b ≢ Refused Memory → (b ≡ Refused (Text f)) × (y ≡ desk.held)
-  as_unspelt f Taken y un is memory = absurd (not_spelt is.message f is.says.spelt un)
-  as_unspelt f Repeated y un is memory = let known = is.0 in absurd (not_spelt known.message f known.says.spelt un)
+  as_unspelt f (Taken q) y un is memory = absurd (not_spelt is.message f is.says.spelt un)
+  as_unspelt f (Repeated q) y un is memory = let known = is.0 in absurd (not_spelt known.message f known.says.spelt un)
   as_unspelt f Merged y un is memory = absurd is
   as_unspelt f (Refused Memory) y un is memory = absurd (memory refl)
   as_unspelt f (Refused (Text g)) y un is memory = (ap (λ k. Refused (Text k)) (same_fault g f is.0 un), is.1)
@@ -229,8 +230,8 @@ module _ (one : OneMessage) (refusals : OneRefusal) (outcome : HasOneOutcome) (d
   as_unspelt f (Refused (File offset)) y un is memory = absurd is.0
 
   as_unresolved : (f : ResolveFault) (b : Answer) (y : HeldMessages) → IsUnresolved desk text f → Takes desk text b y → b ≢ Refused Memory → (b ≡ Refused (Resolve f)) × (y ≡ desk.held)
-  as_unresolved f Taken y un is memory = absurd (not_unresolved is.reference is.message f is.says un)
-  as_unresolved f Repeated y un is memory = let known = is.0 in absurd (not_unresolved known.reference known.message f known.says un)
+  as_unresolved f (Taken q) y un is memory = absurd (not_unresolved q is.message f is.says un)
+  as_unresolved f (Repeated q) y un is memory = let known = is.0 in absurd (not_unresolved q known.message f known.says un)
   as_unresolved f Merged y un is memory = absurd is
   as_unresolved f (Refused Memory) y un is memory = absurd (memory refl)
   as_unresolved f (Refused (Text g)) y un is memory = absurd (not_spelt un.message g un.spelt is.0)
@@ -247,8 +248,8 @@ module _ (one : OneMessage) (refusals : OneRefusal) (outcome : HasOneOutcome) (d
   equals a b x y z of held = (sym of.0, held ∙ sym of.1)
 
   determined : (a b : Answer) (x y : HeldMessages) → Takes desk text a x → Takes desk text b y → a ≢ Refused Memory → b ≢ Refused Memory → (a ≡ b) × (x ≡ y)
-  determined Taken b x y is_a is_b memory_a memory_b = equals Taken b x y x (as_new b x y is_a is_b memory_b) refl
-  determined Repeated b x y is_a is_b memory_a memory_b = equals Repeated b x y desk.held (as_known b y is_a.0 is_b memory_b) is_a.1
+  determined (Taken r) b x y is_a is_b memory_a memory_b = equals (Taken r) b x y x (as_new r b x y is_a is_b memory_b) refl
+  determined (Repeated r) b x y is_a is_b memory_a memory_b = equals (Repeated r) b x y desk.held (as_known r b y is_a.0 is_b memory_b) is_a.1
   determined Merged b x y is_a is_b memory_a memory_b = absurd is_a
   determined (Refused Memory) b x y is_a is_b memory_a memory_b = absurd (memory_a refl)
   determined (Refused (Text f)) b x y is_a is_b memory_a memory_b = equals (Refused (Text f)) b x y desk.held (as_unspelt f b y is_a.0 is_b memory_b) is_a.1

@@ -8,7 +8,7 @@ use Rattle.ssim_values.specs.Period.{DayRange}
 use Rattle.ssim_periods.specs.Calendar.{holds, slot}
 use Rattle.ssim_records.specs.declared.record.Record.{Record}
 use Rattle.ssim_base.specs.Stations.{Row}
-use Rattle.ssim_base.specs.Timetable.{Legs, itinerary, same_flight}
+use Rattle.ssim_base.specs.Timetable.{itinerary, same_flight}
 use Rattle.ssim_base.specs.declared.sub_message.ResolvedSub.{ResolvedSub}
 use Rattle.ssim_schedule.specs.Acts.{after_on}
 use Rattle.ssim_schedule.specs.Dates.{itinerary_between}

@@ -21,7 +21,9 @@ use Rattle.ssim_held.specs.Entries.{Entry}
 use Rattle.ssim_desk.specs.Desk.{is_sub_of}
 use Rattle.ssim_desk.specs.Meaning.{Timetable, after_entries, after_entry, after_one, after_subs, entries_findings, found_by, subs_findings}
 use Rattle.ssim_desk.specs.internal.Changes.{AgreeAt, flights_of}
-use Rattle.ssim_desk.proofs.Trails.{after_entries-++, findings-++}
+use Rattle.ssim_desk.specs.Desk.{entry_lines, sub_lines}
+use Rattle.ssim_desk.proofs.Lines.{lines-++}
+use Rattle.ssim_desk.proofs.Trails.{after_entries-++, findings-++, length-findings}
 
 -- ---- at one flight
 
@@ -101,8 +103,14 @@ module _ (rows : List Row) (es : List Entry) (k : ℕ) (e : Entry) (within : k <
   pub after_one_more : after_entry rows e (after_entries rows (take k es) before) ≡ after_entries rows (take (k + 1) es) before
   after_one_more = sym (ap (λ (xs : List Entry). after_entries rows xs before) those ∙ after_entries-++ rows (take k es) (e ∷ []) before)
 
-  pub found_one_more : entries_findings rows (take k es) before ++ subs_findings rows e.message.subs e.dates (after_entries rows (take k es) before) ∷ [] ≡ entries_findings rows (take (k + 1) es) before
-  found_one_more = sym (ap (λ (xs : List Entry). entries_findings rows xs before) those ∙ findings-++ rows (take k es) (e ∷ []) before)
+  pub lines_one_more : entry_lines (take k es) (entries_findings rows (take k es) before)
+      ++ sub_lines e.reference 1 e.message.subs (subs_findings rows e.message.subs e.dates so_far)
+      ≡ entry_lines (take (k + 1) es) (entries_findings rows (take (k + 1) es) before)
+  lines_one_more =
+      sym (lines-++ (take k es) (entries_findings rows (take k es) before) e
+      (subs_findings rows e.message.subs e.dates so_far) (length-findings rows (take k es) before))
+      ∙ ap (entry_lines (take k es ++ e ∷ [])) (sym (findings-++ rows (take k es) (e ∷ []) before))
+      ∙ ap (λ (xs : List Entry). entry_lines xs (entries_findings rows xs before)) (sym those)
 
   -- the message names the flight, or does not
   module _ (t : Timetable) (g : FlightNumber) (agrees : t g ≡ after_entries rows (take k es) before g) where

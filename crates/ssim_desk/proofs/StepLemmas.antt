@@ -6,6 +6,7 @@ use Rattle.ssim_held.specs.Held.{DeskState, IsDesk, no_desk}
 use Rattle.ssim_held.specs.Entries.{DeskSeen, map_of, state_of}
 use Rattle.ssim_desk.specs.Steps.{Acts, IsIdle, LeavesIdle, Merges, MergesAt, MergesOne, Runs, Takes, TakesAt, desk_at, is_change, with_held}
 use Rattle.ssim_desk.specs.declared.steps.Answer.{Answer}
+use Rattle.ssim_text.specs.declared.reference.Reference.{Reference}
 use Rattle.ssim_desk.specs.declared.steps.Answer.TheVariants.{Taken, Repeated, Merged, Refused}
 use Rattle.ssim_desk.specs.declared.steps.Step.{Step}
 use Rattle.ssim_desk.specs.declared.steps.Step.TheVariants.{Take}
@@ -112,19 +113,19 @@ other_place (y ∷ xs) (suc i) (suc j) x apart = other_place xs i j x (λ e. apa
 
 -- whether the text was new
 abbrev is_taken : Answer → Bool
-is_taken Taken = true
+is_taken (Taken reference) = true
 is_taken _ = false
 
 -- putting back what was there changes nothing
 same_again : {X : Type 0} (desks : List X) (i j : ℕ) (old new d : X) → old ≡ get_or desks i d → new ≡ old → slice_get (set desks i new) j ≡ slice_get desks j
 same_again desks i j old new d is same = ap (λ x. slice_get (set desks i x) j) (same ∙ is) ∙ ap (λ xs. slice_get xs j) (set-get_or desks i d)
 
-pub idle_take : {X : Type 0} (desks : List X) (i j : ℕ) (text : Vec ℕ Global) (answer : Answer) (old new d : X) → old ≡ get_or desks i d → (answer ≢ Taken → new ≡ old)
+pub idle_take : {X : Type 0} (desks : List X) (i j : ℕ) (text : Vec ℕ Global) (answer : Answer) (old new d : X) → old ≡ get_or desks i d → (((r : Reference) → answer ≢ Taken r) → new ≡ old)
     → is_change j (Take i text) answer ≡ false → slice_get (set desks i new) j ≡ slice_get desks j
-idle_take desks i j text Taken old new d is same idle = other_place desks i j new (λ e. true≢false (sym (eq-eqb i j (sym e)) ∙ idle))
-idle_take desks i j text Repeated old new d is same idle = same_again desks i j old new d is (same (λ e. true≢false (sym (ap is_taken e))))
-idle_take desks i j text Merged old new d is same idle = same_again desks i j old new d is (same (λ e. true≢false (sym (ap is_taken e))))
-idle_take desks i j text (Refused fault) old new d is same idle = same_again desks i j old new d is (same (λ e. true≢false (sym (ap is_taken e))))
+idle_take desks i j text (Taken r) old new d is same idle = other_place desks i j new (λ e. true≢false (sym (eq-eqb i j (sym e)) ∙ idle))
+idle_take desks i j text (Repeated r) old new d is same idle = same_again desks i j old new d is (same (λ q e. true≢false (sym (ap is_taken e))))
+idle_take desks i j text Merged old new d is same idle = same_again desks i j old new d is (same (λ q e. true≢false (sym (ap is_taken e))))
+idle_take desks i j text (Refused fault) old new d is same idle = same_again desks i j old new d is (same (λ q e. true≢false (sym (ap is_taken e))))
 
 -- of steps and one more, each leaves the desk idle
 idle_last : (start now : List DeskState) (d : ℕ) (xs : List Step) (us : List Answer) (s : Step) (a : Answer) → Runs start xs us now → IsIdle d (xs ++ s ∷ []) (us ++ a ∷ [])

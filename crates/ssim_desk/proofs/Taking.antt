@@ -52,33 +52,33 @@ tied_self q r e = ap (eq_by_cmp reference_cmp q) (sym e) ∙ (eq_by_cmp_equiv re
 -- what a text adds
 pub take_holds : OneMessage → (desk : DeskState) (text : List ℕ) (answer : Answer) (held : HeldMessages) → Takes desk text answer held
     → (r : Reference) (m : MessageValue) → (get held r ≡ Some m) ↔ ((get desk.held r ≡ Some m) ⊎ ((is_accepted answer ≡ true) × Says desk.base text r m))
-take_holds one desk text Taken held is r m =
-    (λ h. there (eq_by_cmp reference_cmp r is.reference) refl (sym found ∙ h), λ s. found ∙ back (eq_by_cmp reference_cmp r is.reference) refl s)
+take_holds one desk text (Taken reference) held is r m =
+    (λ h. there (eq_by_cmp reference_cmp r reference) refl (sym found ∙ h), λ s. found ∙ back (eq_by_cmp reference_cmp r reference) refl s)
   where
-    found : get held r ≡ cond (eq_by_cmp reference_cmp r is.reference) (Some is.message) (get desk.held r)
-    found = ap (λ x. get x r) is.added ∙ get-insert reference_total desk.held is.reference is.message r
+    found : get held r ≡ cond (eq_by_cmp reference_cmp r reference) (Some is.message) (get desk.held r)
+    found = ap (λ x. get x r) is.added ∙ get-insert reference_total desk.held reference is.message r
 
-    there : (t : Bool) → eq_by_cmp reference_cmp r is.reference ≡ t → cond t (Some is.message) (get desk.held r) ≡ Some m → (get desk.held r ≡ Some m) ⊎ ((true ≡ true) × Says desk.base text r m)
+    there : (t : Bool) → eq_by_cmp reference_cmp r reference ≡ t → cond t (Some is.message) (get desk.held r) ≡ Some m → (get desk.held r ≡ Some m) ⊎ ((true ≡ true) × Says desk.base text r m)
     there true e h =
-        let here : is.reference ≡ r = sym (tied r is.reference e) in
+        let here : reference ≡ r = sym (tied r reference e) in
         let same : is.message ≡ m = cc in
-        inr (refl, subst (λ q. Says desk.base text q m) here (subst (Says desk.base text is.reference) same is.says))
+        inr (refl, subst (λ q. Says desk.base text q m) here (subst (Says desk.base text reference) same is.says))
     there false e h = inl h
 
-    back : (t : Bool) → eq_by_cmp reference_cmp r is.reference ≡ t → ((get desk.held r ≡ Some m) ⊎ ((true ≡ true) × Says desk.base text r m)) → cond t (Some is.message) (get desk.held r) ≡ Some m
-    back true e (inl h) = let none : get desk.held r ≡ None = ap (get desk.held) (tied r is.reference e) ∙ is.absent in cc
-    back true e (inr p) = ap Some (says_message one desk.base text is.reference r is.message m is.says p.1)
+    back : (t : Bool) → eq_by_cmp reference_cmp r reference ≡ t → ((get desk.held r ≡ Some m) ⊎ ((true ≡ true) × Says desk.base text r m)) → cond t (Some is.message) (get desk.held r) ≡ Some m
+    back true e (inl h) = let none : get desk.held r ≡ None = ap (get desk.held) (tied r reference e) ∙ is.absent in cc
+    back true e (inr p) = ap Some (says_message one desk.base text reference r is.message m is.says p.1)
     back false e (inl h) = h
-    back false e (inr p) = let on : eq_by_cmp reference_cmp r is.reference ≡ true = tied_self r is.reference (says_reference one desk.base text r is.reference m is.message p.1 is.says) in cc
-take_holds one desk text Repeated held is r m =
+    back false e (inr p) = let on : eq_by_cmp reference_cmp r reference ≡ true = tied_self r reference (says_reference one desk.base text r reference m is.message p.1 is.says) in cc
+take_holds one desk text (Repeated reference) held is r m =
     (λ h. inl (ap (λ x. get x r) (sym is.1) ∙ h), λ s. ap (λ x. get x r) is.1 ∙ back s)
   where
     back : ((get desk.held r ≡ Some m) ⊎ ((true ≡ true) × Says desk.base text r m)) → get desk.held r ≡ Some m
     back (inl h) = h
     back (inr p) =
         let known = is.0 in
-        ap (get desk.held) (says_reference one desk.base text r known.reference m known.message p.1 known.says) ∙ known.holds
-        ∙ ap Some (sym (says_message one desk.base text r known.reference m known.message p.1 known.says))
+        ap (get desk.held) (says_reference one desk.base text r reference m known.message p.1 known.says) ∙ known.holds
+        ∙ ap Some (sym (says_message one desk.base text r reference m known.message p.1 known.says))
 take_holds one desk text Merged held is r m = absurd is
 take_holds one desk text (Refused fault) held is r m =
     (λ h. inl (ap (λ x. get x r) (sym is.1) ∙ h), λ s. elim s [ inl h ↦ ap (λ x. get x r) is.1 ∙ h | inr p ↦ let e : false ≡ true = p.0 in cc ])
@@ -88,8 +88,8 @@ take_holds one desk text (Refused fault) held is r m =
 -- what a merge adds
 pub merge_holds : (mine theirs : DeskState) (answer : Answer) (held : HeldMessages) → Merges mine theirs answer held
     → (r : Reference) (m : MessageValue) → (get held r ≡ Some m) ↔ ((get mine.held r ≡ Some m) ⊎ ((answer ≡ Merged) × (get theirs.held r ≡ Some m)))
-merge_holds mine theirs Taken held is r m = absurd is
-merge_holds mine theirs Repeated held is r m = absurd is
+merge_holds mine theirs (Taken reference) held is r m = absurd is
+merge_holds mine theirs (Repeated reference) held is r m = absurd is
 merge_holds mine theirs Merged held is r m =
     (λ h. there (get mine.held r) (get theirs.held r) (sym all ∙ h), λ s. all ∙ back (get mine.held r) (get theirs.held r) refl refl s)
   where

@@ -1,7 +1,7 @@
 -- One more message, one more checkpoint after each 32, and the checkpoints before a position with
 -- those after it.
-use Rattle.std.proofs.Common.{◌≡◌, ◌≢◌, ◌≤◌, ◌<◌, ◌+◌, ◌-◌, ◌*◌, ◌/◌, ◌%◌, ℕ, zero, suc, List, [], ◌∷◌, ◌++◌, length, take, drop, Some, IfSome, slice_get, refl, sym, ap, subst, ◌∙◌, arith, length-append, append_assoc}
-use Rattle.std.proofs.lemmas.List.{take-append-le, take_all, length-take, append-nil}
+use Rattle.std.proofs.Common.{◌≡◌, ◌≢◌, ◌≤◌, ◌<◌, ◌+◌, ◌-◌, ◌*◌, ◌/◌, ◌%◌, ℕ, zero, suc, List, [], ◌∷◌, ◌++◌, length, take, drop, IfSome, slice_get, refl, sym, ap, subst, ◌∙◌, arith, length-append}
+use Rattle.std.proofs.lemmas.List.{take-append-le, take_all, length-take}
 use Rattle.ssim_base.specs.BaseSeen.{BaseSeen}
 use Rattle.ssim_schedule.specs.Schedule.{Flown, cuts_in}
 use Rattle.ssim_base.specs.Stations.{Row}
@@ -10,7 +10,7 @@ use Rattle.ssim_values.specs.Flight.{FlightNumber, IsFlight}
 use Rattle.ssim_held.specs.Entries.{Entry}
 use Rattle.ssim_desk.specs.internal.Changes.{AddsSubPoints, AreCheckpoints, IsAfter, AreSchedules, IsReplay, Shows}
 use Rattle.ssim_desk.specs.{declared.schedules.Schedules.Schedules, declared.replay.Replay.Replay}
-use Rattle.ssim_desk.specs.Meaning.{Timetable, after_entries, after_entry, entries_findings, found_by, left_by, subs_findings}
+use Rattle.ssim_desk.specs.Meaning.{Timetable, after_entries, after_entry, entries_findings, left_by, subs_findings}
 use Rattle.ssim_desk.proofs.Points.{more_at}
 
 -- ---- messages in two parts
@@ -26,11 +26,6 @@ findings-++ rows (x ∷ xs) ys t = ap (λ (fs : List (List Finding)). subs_findi
 pub length-findings : (rows : List Row) (es : List Entry) (t : Timetable) → length (entries_findings rows es t) ≡ length es
 length-findings rows [] t = refl
 length-findings rows (e ∷ es) t = ap suc (length-findings rows es (after_entry rows e t))
-
-pub take-findings : (rows : List Row) (es : List Entry) (t : Timetable) (n : ℕ) → take n (entries_findings rows es t) ≡ entries_findings rows (take n es) t
-take-findings rows es t zero = refl
-take-findings rows [] t (suc n) = refl
-take-findings rows (e ∷ es) t (suc n) = ap (λ (fs : List (List Finding)). subs_findings rows e.message.subs e.dates t ∷ fs) (take-findings rows es (after_entry rows e t) n)
 
 pub take-within : {X : Type 0} (xs ys : List X) (n : ℕ) → n ≤ length xs → take n (xs ++ ys) ≡ take n xs
 take-within xs ys n h = take-append-le n xs ys h
@@ -84,23 +79,12 @@ module _ (base : BaseSeen) (before : List Entry) (e : Entry) where
   pub left_more : left_by base (before ++ e ∷ []) ≡ after_entry base.rows e (left_by base before)
   left_more = after_entries-++ base.rows before (e ∷ []) _
 
-  pub found_more : found_by base (before ++ e ∷ []) ≡ found_by base before ++ subs_findings base.rows e.message.subs e.dates (left_by base before) ∷ []
-  found_more = findings-++ base.rows before (e ∷ []) _
-
   pub after_more : (old s : Flown) → IsAfter base before old → Shows s (after_entry base.rows e (left_by base before))
       → ((g : FlightNumber) → IsFlight g → AddsSubPoints base.rows e.dates g (cuts_in old g) (cuts_in s g)) → IsAfter base (before ++ e ∷ []) s
   after_more old s after shows adds = record {
     shows = subst (Shows s) (sym left_more) shows;
     cuts = λ g is. more_at base g before e (cuts_in old g) (cuts_in s g) (adds g is) (after.cuts g is);
   }
-
-  pub found_next : (from : ℕ) (found : List (List Finding)) (one : List Finding) → from ≤ length before → found_by base (take from before) ++ found ≡ found_by base before
-      → one ≡ subs_findings base.rows e.message.subs e.dates (left_by base before)
-      → found_by base (take from (before ++ e ∷ [])) ++ (found ++ one ∷ []) ≡ found_by base (before ++ e ∷ [])
-  found_next from found one within is found_is =
-      ap (λ es. found_by base es ++ (found ++ one ∷ [])) (take-within before (e ∷ []) from within)
-      ∙ sym (append_assoc (found_by base (take from before)) found (one ∷ []))
-      ∙ ap (λ fs. fs ++ one ∷ []) is ∙ ap (λ (f : List Finding). found_by base before ++ f ∷ []) found_is ∙ sym found_more
 
   pub kept_none : (first : ℕ) (cps : List Flown) → (length before + 1) % 32 ≢ 0 → AreCheckpoints base before first cps → AreCheckpoints base (before ++ e ∷ []) first cps
   kept_none first cps off kept = record {
@@ -123,9 +107,6 @@ pub length-front : {X : Type 0} (xs : List X) (n : ℕ) → n ≤ length xs → 
 length-front xs n le = omega (arith, length-take n xs)
 
 -- nothing follows yet
-pub nothing_found : (base : BaseSeen) (entries : List Entry) (from : ℕ) → from ≡ length entries → found_by base (take from entries) ++ [] ≡ found_by base entries
-nothing_found base entries from is = append-nil (found_by base (take from entries)) ∙ ap (found_by base) (take_all from entries (omega arith))
-
 pub nothing_kept : (base : BaseSeen) (entries : List Entry) (from : ℕ) → from ≡ length entries → AreCheckpoints base entries (from / 32 + 1) []
 nothing_kept base entries from is = record { count = omega arith; each = λ k. tt }
 
@@ -137,26 +118,11 @@ begun_each base schedule after (suc k) = tt
 begun_kept : (base : BaseSeen) (schedule : Flown) → IsAfter base [] schedule → AreCheckpoints base [] 0 (schedule ∷ [])
 begun_kept base schedule after = record { count = omega arith; each = begun_each base schedule after }
 
-module _ (base : BaseSeen) (held : List Entry) (from : ℕ) where
-  pub start_latest : (latest : Flown) → from ≡ length held → IsAfter base held latest → IsAfter base (take from held) latest
-  start_latest latest is after = after_at base _ _ latest (sym (take_all from held (omega arith))) after
-
-  pub start_checkpoint : (cps : List Flown) (s : Flown) → from ≡ 32 * (from / 32) → AreCheckpoints base held 0 cps → slice_get cps (from / 32) ≡ Some s → IsAfter base (take from held) s
-  start_checkpoint cps s is kept there =
-      let e : 32 * (0 + from / 32) ≡ from = omega arith in
-      after_at base _ _ s (ap (λ n. take n held) e) (subst (λ o. IfSome o (IsAfter base (take (32 * (0 + from / 32)) held))) there (kept.each (from / 32)))
-
 -- ---- in place of what was there
 
 module _ (base : BaseSeen) (held rest : List Entry) (from at : ℕ) (low : from ≤ at) (place : at ≤ length held) where
   front_is : (n : ℕ) → n ≤ from → take n (take at held ++ rest) ≡ take n held
   front_is n le = take-within (take at held) rest n (omega (arith, length-front held at place)) ∙ take-take held n at (omega arith)
-
-  pub found_in_place : (found tail : List (List Finding)) → found ≡ found_by base held → found_by base (take from (take at held ++ rest)) ++ tail ≡ found_by base (take at held ++ rest)
-      → take from found ++ tail ≡ found_by base (take at held ++ rest)
-  found_in_place found tail is tail_is =
-      ap (λ fs. take from fs ++ tail) is ∙ ap (λ fs. fs ++ tail) (take-findings base.rows held _ from)
-      ∙ ap (λ es. found_by base es ++ tail) (sym (front_is from (omega arith))) ∙ tail_is
 
   pub kept_in_place : (cps tail : List Flown) → AreCheckpoints base held 0 cps → AreCheckpoints base (take at held ++ rest) (from / 32 + 1) tail
       → AreCheckpoints base (take at held ++ rest) 0 (take (from / 32 + 1) cps ++ tail)
@@ -173,10 +139,9 @@ module _ (base : BaseSeen) (held rest : List Entry) (from at : ℕ) (low : from 
 
 -- the history of messages that were all applied
 pub made : (base : BaseSeen) (held : List Entry) (began : Flown) (r : Replay) (h : Schedules) → IsAfter base [] began → IsReplay base held r → r.from ≡ 0
-    → h.latest ≡ r.latest → h.found.items ≡ r.found.items → h.checkpoints.items ≡ began ∷ r.checkpoints.items → AreSchedules base held h
-made base held began r h after replay none latest found checkpoints = record {
+    → h.latest ≡ r.latest → h.checkpoints.items ≡ began ∷ r.checkpoints.items → AreSchedules base held h
+made base held began r h after replay none latest checkpoints = record {
   latest_is = subst (IsAfter base held) (sym latest) replay.latest_is;
-  found_is = found ∙ ap (λ n. found_by base (take n held) ++ r.found.items) (sym none) ∙ replay.found_is;
   kept = subst (AreCheckpoints base held 0) (sym checkpoints)
       (kept_in_place base [] held 0 0 (omega arith) (omega arith) (began ∷ []) r.checkpoints.items (begun_kept base began after)
       (subst (λ n. AreCheckpoints base held (n / 32 + 1) r.checkpoints.items) none replay.kept));
@@ -185,20 +150,9 @@ made base held began r h after replay none latest found checkpoints = record {
 -- the history after messages from a position on were replaced
 pub put_in_place : (base : BaseSeen) (held rest : List Entry) (at : ℕ) (r : Replay) (old new : Schedules) → at ≤ length held → r.from ≤ at
     → AreSchedules base held old → IsReplay base (take at held ++ rest) r → new.latest ≡ r.latest
-    → new.found.items ≡ take r.from old.found.items ++ r.found.items
     → new.checkpoints.items ≡ take (r.from / 32 + 1) old.checkpoints.items ++ r.checkpoints.items → AreSchedules base (take at held ++ rest) new
-put_in_place base held rest at r old new place low history replay latest found checkpoints = record {
+put_in_place base held rest at r old new place low history replay latest checkpoints = record {
   latest_is = subst (IsAfter base (take at held ++ rest)) (sym latest) replay.latest_is;
-  found_is = found ∙ found_in_place base held rest r.from at low place old.found.items r.found.items history.found_is replay.found_is;
   kept = subst (AreCheckpoints base (take at held ++ rest) 0) (sym checkpoints)
       (kept_in_place base held rest r.from at low place old.checkpoints.items r.checkpoints.items history.kept replay.kept);
-}
-
--- a history with the same schedules and findings
-pub same_history : (base : BaseSeen) (held : List Entry) (old new : Schedules) → new.latest ≡ old.latest → new.found.items ≡ old.found.items
-    → new.checkpoints.items ≡ old.checkpoints.items → AreSchedules base held old → AreSchedules base held new
-same_history base held old new latest found checkpoints history = record {
-  latest_is = subst (IsAfter base held) (sym latest) history.latest_is;
-  found_is = found ∙ history.found_is;
-  kept = subst (AreCheckpoints base held 0) (sym checkpoints) history.kept;
 }

@@ -12,8 +12,8 @@ use Rattle.ssim_desk.specs.declared.steps.Step.TheVariants.{Take, Merge}
 
 -- whether a result says that the text's message is held
 abbrev pub is_accepted : Answer → Bool
-is_accepted Taken = true
-is_accepted Repeated = true
+is_accepted (Taken reference) = true
+is_accepted (Repeated reference) = true
 is_accepted _ = false
 
 -- the step with this number, counted from 0, and its result

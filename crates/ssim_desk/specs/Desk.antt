@@ -1,7 +1,7 @@
 -- What the calls of a desk do and return.
 use Rattle.std.specs.Prelude.{◌≡◌, ℕ, ◌+◌, ◌*◌, ◌≤◌, Bool, ◌&&◌, ◌||◌, nat_eq, IsTrue, List, [], ◌∷◌, ◌++◌}
 use Rattle.std.specs.Prelude.{length, take, slice_get, Contains, None}
-use Rattle.std.specs.Prelude.{Option, Some, Result, Ok, Err}
+use Rattle.std.specs.Prelude.{Some, Result, Ok, Err}
 use Rattle.std.specs.{FinMap.get, List.{count_by, flat_map, list_any}}
 use Rattle.ssim_periods.specs.Days.{each_day}
 use Rattle.ssim_base.specs.BaseSeen.{BaseSeen, is_leg_of}
@@ -37,15 +37,10 @@ pub record ScheduledDesk : Type 0 where
   pub schedule : Flown
 
 -- the `Answer` for a result of `take`
-abbrev pub take_answer : Result Took DeskFault → Answer
-take_answer (Ok took.Taken) = Taken
-take_answer (Ok took.Repeated) = Repeated
+abbrev pub take_answer : Result (Took × Reference) DeskFault → Answer
+take_answer (Ok (took.Taken, reference)) = Taken reference
+take_answer (Ok (took.Repeated, reference)) = Repeated reference
 take_answer (Err fault) = Refused fault
-
--- the `Answer` for a result of `take` that has the reference of the message, too
-abbrev pub took_answer : Result (Took × Reference) DeskFault → Answer
-took_answer (Ok taken) = take_answer (Ok taken.0)
-took_answer (Err fault) = Refused fault
 
 -- the `Answer` for a result of `merge`
 abbrev pub merge_answer : Result (Unit {0}) DeskFault → Answer

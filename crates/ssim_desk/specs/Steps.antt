@@ -41,17 +41,16 @@ pub record IsInConflict (desk : DeskState) (text : List ℕ) (reference : Refere
   pub holds : Holds desk reference other
   pub apart : other ≢ message
 
--- the message of the text is new to the desk, and is held afterwards
-pub record IsNew (desk : DeskState) (text : List ℕ) (held : HeldMessages) : Type 0 where
-  pub reference : Reference
+-- the message of the text, which has this reference, is new to the desk, and is held afterwards
+pub record IsNew (desk : DeskState) (text : List ℕ) (reference : Reference)
+    (held : HeldMessages) : Type 0 where
   pub message : MessageValue
   pub says : Says desk.base text reference message
   pub absent : get desk.held reference ≡ None
   pub added : held ≡ insert desk.held reference message
 
--- the desk holds the message of the text already
-pub record IsKnown (desk : DeskState) (text : List ℕ) : Type 0 where
-  pub reference : Reference
+-- the desk holds the message of the text, which has this reference, already
+pub record IsKnown (desk : DeskState) (text : List ℕ) (reference : Reference) : Type 0 where
   pub message : MessageValue
   pub says : Says desk.base text reference message
   pub holds : Holds desk reference message
@@ -66,8 +65,8 @@ RefusesText _ _ _ = ⊥
 
 -- the result of taking a text, and the messages held afterwards
 abbrev pub Takes : DeskState → List ℕ → Answer → HeldMessages → Type 0
-Takes desk text Taken held = IsNew desk text held
-Takes desk text Repeated held = IsKnown desk text × (held ≡ desk.held)
+Takes desk text (Taken reference) held = IsNew desk text reference held
+Takes desk text (Repeated reference) held = IsKnown desk text reference × (held ≡ desk.held)
 Takes desk text (Refused fault) held = RefusesText desk text fault × (held ≡ desk.held)
 Takes _ _ Merged _ = ⊥
 
@@ -149,7 +148,7 @@ Runs _ _ _ _ = ⊥
 -- whether the step may have changed the desk with this number: it took a text that was new, or it
 -- was merged with another desk
 abbrev pub is_change : ℕ → Step → Answer → Bool
-is_change d (Take i text) Taken = i == d
+is_change d (Take i text) (Taken reference) = i == d
 is_change d (Merge into from) Merged = (into == d) && not (from == d)
 is_change _ _ _ = false
 

@@ -7,6 +7,7 @@ ghost use Rattle.ssim_values.specs.Calendar.{weekday};
 ghost use Rattle.ssim_schedule.specs.ExportResult.{ReadsBackBase, RefusesBase, WritesBase};
 ghost use Rattle.ssim_schedule.specs.Schedule.{cuts_in};
 ghost use Rattle.ssim_base.specs.Sinks.{Puts};
+ghost use Rattle.ssim_text.specs.declared.reference.Reference.{Reference};
 ghost use Rattle.ssim_held.specs.File.{CanBeSaved, desk_file};
 ghost use Rattle.ssim_held.specs.Opening.{Opens, RefusesOpening};
 ghost use Rattle.ssim_held.specs.Entries.{AreEntries, AreRising, IsEntry, map_of, state_of};
@@ -18,15 +19,15 @@ ghost use Rattle.ssim_desk.specs.internal.Changes.{IsReplaced};
 ghost use Rattle.ssim_desk.specs.Meaning.{Finds, Means, Timetable, found_by};
 ghost use Rattle.ssim_desk.specs.Steps.{Merges, Takes};
 
-use crate::finding_line::{FindingLine, push_lines};
-use crate::holdings::Holdings;
+use crate::finding_line::FindingLine;
+use crate::holdings::{Holdings, copies};
 use crate::offer::Offer;
-use crate::replay::apply_all;
 use crate::schedules::Schedules;
 use ssim_base::{Base, WriteFault};
 use ssim_held::{DeskFault, Held};
 use ssim_records::{Sink, Source};
 use ssim_schedule::{ExportFault, PlacedLeg};
+use ssim_text::Reference;
 use ssim_values::{Day, Flight, Memory};
 use std::alloc::Global;
 use std::marker::Model;
@@ -121,25 +122,30 @@ impl Desk {
         self.schedules.applied
     }
 
-    /// Takes a text: holds its message if it is new.
+    /// Takes a text: holds its message if it is new. Returns the message's reference, too.
     ///
-    /// Returns the first of: 20 to 29 if the text is no message, 40 to 43 if the message does not
-    /// resolve, 60 if another message is held under its reference. The desk changes only if the
+    /// The error is the first of: 20 to 29 if the text is no message, 40 to 43 if the message does
+    /// not resolve, 60 if another message is held under its reference. The desk changes only if the
     /// message was new.
-    pub fn take(&mut self, text: &[u8]) -> Result<Took, DeskFault>
+    pub fn take(&mut self, text: &[u8]) -> Result<(Took, Reference), DeskFault>
         ensures takes { Takes (state_of self.old.seen) text.now (take_answer result)
             (map_of self.new.seen.held) }
         ensures base { self.new.seen.base ≡ self.old.seen.base }
-        ensures taken { result ≡ Ok Took.Taken → IsReplayed self.old.seen self.new.seen }
-        ensures repeated { result ≡ Ok Took.Repeated → self.new ≡ self.old }
+        ensures taken { (reference : Reference) → result ≡ Ok (Took.Taken, reference)
+            → IsReplayed self.old.seen self.new.seen }
+        ensures repeated { (reference : Reference) → result ≡ Ok (Took.Repeated, reference)
+            → self.new ≡ self.old }
         ensures err { OnErr result (self.new ≡ self.old) }
     {
         let offered = self.holdings.offer(text)?;
         match offered {
-            Offer::Known(_) => Ok(Took::Repeated),
+            Offer::Known(reference) => Ok((Took::Repeated, reference)),
             Offer::New(at, new) => {
-                self.insert(at, new)?;
-                Ok(Took::Taken)
+                let reference = new.reference();
+                let mut rest = copies(self.holdings.allocator(), &self.holdings.held()[at..])?;
+                rest.insert(0, new)?;
+                self.replace_from(at, rest)?;
+                Ok((Took::Taken, reference))
             }
         }
     }
@@ -212,15 +218,13 @@ impl Desk {
     }
 
     /// A line for each sub-message that is held, in order: what it found on the dates of its
-    /// period.
+    /// period. Reads all records of the base.
     pub fn findings(&self) -> Result<Vec<FindingLine>, Memory>
         ensures lines { IfOk result (λ lines. lines.items ≡ finding_lines self.now.seen) }
         ensures finds { IfOk result (λ lines. Finds (state_of self.now.seen)
             (found_by self.now.seen.base self.now.seen.held)) }
     {
-        let mut lines = Vec::new(self.holdings.allocator());
-        push_lines(&mut lines, self.holdings.held(), &self.schedules.found)?;
-        Ok(lines)
+        self.holdings.findings()
     }
 
     /// Writes the desk's timetable as an SSIM chapter 7 data set in the one canonical division: the
@@ -274,26 +278,6 @@ impl Desk {
         })
     }
 
-    // Inserts a new message at its position.
-    fn insert(&mut self, at: usize, new: Held) -> Result<(), Memory>
-        requires gap { Belongs self.old.seen.held new.reference at at }
-        requires entry { IsEntry self.old.seen.base.records new }
-        ensures ok { OnOk result
-            (IsReplaced self.old.seen at (new ∷ drop at self.old.seen.held) self.new.seen) }
-        ensures err { OnErr result (self.new ≡ self.old) }
-    {
-        let alloc = self.holdings.allocator();
-        let base = self.holdings.base();
-        let held = self.holdings.held();
-        let mut replay = self.schedules.replay_to(alloc, base, held, at)?;
-        replay.apply(alloc, base, &new)?;
-        apply_all(alloc, base, &mut replay, &held[at..])?;
-        self.schedules.reserve(&replay)?;
-        self.holdings.insert(at, new)?;
-        self.schedules.put(replay);
-        Ok(())
-    }
-
     // Replaces the messages from position `at` on.
     fn replace_from(&mut self, at: usize, rest: Vec<Held>) -> Result<(), Memory>
         requires within { at ≤ length self.old.seen.held }
@@ -306,10 +290,10 @@ impl Desk {
         let base = self.holdings.base();
         let held = self.holdings.held();
         let mut replay = self.schedules.replay_to(alloc, base, held, at)?;
-        apply_all(alloc, base, &mut replay, &rest)?;
+        replay.apply_all(alloc, base, &rest)?;
         self.schedules.reserve(&replay)?;
         self.holdings.replace_from(at, rest)?;
-        self.schedules.put(replay);
+        self.schedules.put(replay, self.holdings.held().len());
         Ok(())
     }
 }

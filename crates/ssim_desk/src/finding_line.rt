@@ -1,10 +1,8 @@
 //! What each sub-message found, as lines.
 
 ghost use Rattle.std.specs.Prelude.{◌≡◌, ◌<◌, ◌+◌, ◌^◌, ◌++◌, length, OnOk};
-ghost use Rattle.ssim_desk.specs.Desk.{entry_lines, sub_lines};
+ghost use Rattle.ssim_desk.specs.Desk.{sub_lines};
 
-use crate::replay::MessageFindings;
-use ssim_held::Held;
 use ssim_schedule::Finding;
 use ssim_text::{ActionIdentifier, Reference, Sub};
 use ssim_values::{Designator, Memory};
@@ -21,8 +19,8 @@ pub struct FindingLine {
     pub finding: Finding,
 }
 
-// Adds the lines of the sub-messages of one message, the first of which has this number.
-fn push_subs(
+/// Adds the lines of the sub-messages of one message, the first of which has this number.
+pub(crate) fn push_subs(
     lines: &mut Vec<FindingLine>,
     reference: &Reference,
     number: usize,
@@ -46,20 +44,4 @@ fn push_subs(
         }
         _ => Ok(()),
     }
-}
-
-/// Adds the lines of messages.
-pub(crate) fn push_lines(
-    lines: &mut Vec<FindingLine>,
-    held: &[Held],
-    found: &[MessageFindings],
-) -> Result<(), Memory>
-    requires { length held.now ≡ length found.now }
-    ensures { OnOk result (lines.new.items ≡ lines.old.items ++ entry_lines held.now found.now) }
-{
-    for (place, held) in held.iter().enumerate() {
-        let subs = held.message().subs();
-        push_subs(lines, &held.reference(), 1, subs, found[place].findings())?;
-    }
-    Ok(())
 }

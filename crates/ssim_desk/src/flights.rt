@@ -8,12 +8,13 @@ ghost use Rattle.ssim_values.specs.Flight.{FlightNumber, IsFlight};
 ghost use Rattle.ssim_base.specs.Timetable.{is_among};
 ghost use Rattle.ssim_schedule.specs.FlightPieces.{divided_among};
 ghost use Rattle.ssim_schedule.specs.Schedule.{days_in};
+ghost use Rattle.ssim_desk.specs.Desk.{entry_lines};
 ghost use Rattle.ssim_desk.specs.Meaning.{Timetable, after_entries, entries_findings, found_by};
 ghost use Rattle.ssim_desk.specs.Meaning.{left_by};
 ghost use Rattle.ssim_desk.specs.internal.Changes.{AgreeAt, AgreeFrom, Shows, flights_of, reaches};
 
+use crate::finding_line::{FindingLine, push_subs};
 use crate::message_effect::act;
-use crate::replay::MessageFindings;
 use ssim_base::{Base, ResolvedSub, StationRow};
 use ssim_held::Held;
 use ssim_periods::Periods;
@@ -103,14 +104,15 @@ fn schedule_of(
     Ok(schedule)
 }
 
-/// What each of these messages finds in this order. Of the base's timetable only the flights are
-/// made that the messages name.
-pub(crate) fn found_by(
+/// A line for each sub-message of these messages: what it finds if they act in this order. Of the
+/// base's timetable only the flights are made that the messages name.
+pub(crate) fn lines_found(
     alloc: Global,
     base: &Base,
     messages: &[Held],
-) -> Result<Vec<MessageFindings>, Memory>
-    ensures { IfOk result (λ found. found.items ≡ found_by base.now messages.now) }
+) -> Result<Vec<FindingLine>, Memory>
+    ensures { IfOk result
+        (λ lines. lines.items ≡ entry_lines messages.now (found_by base.now messages.now)) }
 {
     let flights = flights_of(alloc, messages)?;
     let mut schedule = Schedule::of_flights(base.data_set(), &flights)?;
@@ -138,21 +140,28 @@ fn push_flights(flights: &mut Vec<Flight>, subs: &[ResolvedSub]) -> Result<(), M
     Ok(())
 }
 
-// The messages act in their order. Returns what each found.
+// The messages act in their order. Returns a line for what each sub-message found.
 fn act_all(
     alloc: Global,
     rows: &[StationRow],
     schedule: &mut Schedule,
     messages: &[Held],
-) -> Result<Vec<MessageFindings>, Memory>
-    ensures { IfOk result (λ found. (before : Timetable) → Shows schedule.old before
-        → found.items ≡ entries_findings rows.now messages.now before) }
+) -> Result<Vec<FindingLine>, Memory>
+    ensures { IfOk result (λ lines. (before : Timetable) → Shows schedule.old before → lines.items
+        ≡ entry_lines messages.now (entries_findings rows.now messages.now before)) }
 {
-    let mut found = Vec::new(alloc);
+    let mut lines = Vec::new(alloc);
     for held in messages {
-        found.push(MessageFindings::new(act(alloc, rows, schedule, held)?))?;
+        let found = act(alloc, rows, schedule, held)?;
+        push_subs(
+            &mut lines,
+            &held.reference(),
+            1,
+            held.message().subs(),
+            &found,
+        )?;
     }
-    Ok(found)
+    Ok(lines)
 }
 
 // Those messages that name one of the flights act in their order.

@@ -1,6 +1,7 @@
 //! What takes texts and merges.
 
 ghost use Rattle.std.specs.Prelude.{◌≡◌, Ok, OnErr};
+ghost use Rattle.ssim_text.specs.declared.reference.Reference.{Reference};
 ghost use Rattle.ssim_held.specs.Held.{IsDesk};
 ghost use Rattle.ssim_held.specs.Entries.{DeskSeen, map_of, state_of};
 ghost use Rattle.ssim_desk.specs.Desk.{merge_answer, take_answer};
@@ -9,6 +10,7 @@ ghost use Rattle.ssim_desk.specs.Steps.{Merges, Takes};
 use crate::desk::{Desk, Took};
 use crate::holdings::Holdings;
 use ssim_held::DeskFault;
+use ssim_text::Reference;
 
 /// What holds messages over a base: a desk, or what a desk holds without its timetable.
 pub trait Holder {
@@ -16,11 +18,12 @@ pub trait Holder {
     ghost seen: { Self → DeskSeen };
 
     /// Takes a text, as `Desk::take` does.
-    fn take(&mut self, text: &[u8]) -> Result<Took, DeskFault>
+    fn take(&mut self, text: &[u8]) -> Result<(Took, Reference), DeskFault>
         ensures takes { Takes (state_of (seen self.old)) text.now (take_answer result)
             (map_of (seen self.new).held) }
         ensures base { (seen self.new).base ≡ (seen self.old).base }
-        ensures repeated { result ≡ Ok Took.Repeated → self.new ≡ self.old }
+        ensures repeated { (reference : Reference) → result ≡ Ok (Took.Repeated, reference)
+            → self.new ≡ self.old }
         ensures err { OnErr result (self.new ≡ self.old) };
 
     /// Holds what the other holds, too, as `Desk::merge` does.
@@ -39,7 +42,7 @@ pub trait Holder {
 impl Holder for Desk {
     ghost seen = { λ desk. desk.seen };
 
-    fn take(&mut self, text: &[u8]) -> Result<Took, DeskFault> {
+    fn take(&mut self, text: &[u8]) -> Result<(Took, Reference), DeskFault> {
         Desk::take(self, text)
     }
 
@@ -58,11 +61,8 @@ impl Holder for Desk {
 impl Holder for Holdings {
     ghost seen = { λ holdings. holdings };
 
-    fn take(&mut self, text: &[u8]) -> Result<Took, DeskFault> {
-        match Holdings::take(self, text) {
-            Ok((took, _)) => Ok(took),
-            Err(fault) => Err(fault),
-        }
+    fn take(&mut self, text: &[u8]) -> Result<(Took, Reference), DeskFault> {
+        Holdings::take(self, text)
     }
 
     fn merge(&mut self, other: &Holdings) -> Result<(), DeskFault> {

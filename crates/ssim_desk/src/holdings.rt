@@ -8,9 +8,8 @@ ghost use Rattle.ssim_schedule.specs.FlightPieces.{divided_among, divided_flight
 ghost use Rattle.ssim_schedule.specs.ExportResult.{ReadsBackBase, RefusesBase, WritesBase};
 ghost use Rattle.ssim_base.specs.Sinks.{Puts};
 ghost use Rattle.ssim_held.specs.File.{CanBeSaved, desk_file};
-ghost use Rattle.ssim_text.specs.Message.{MessageValue};
 ghost use Rattle.ssim_text.specs.declared.reference.Reference.{Reference};
-ghost use Rattle.ssim_held.specs.Held.{Agree, Says};
+ghost use Rattle.ssim_held.specs.Held.{Agree};
 ghost use Rattle.ssim_held.specs.Entries.{AreEntries, AreRising, IsEntry, map_of, state_of};
 ghost use Rattle.ssim_held.specs.Opening.{Opens, RefusesOpening};
 ghost use Rattle.ssim_held.specs.Ordered.{Belongs};
@@ -19,15 +18,15 @@ ghost use Rattle.ssim_schedule.specs.Schedule.{days_in};
 ghost use Rattle.ssim_values.specs.Flight.{FlightNumber, IsFlight};
 ghost use Rattle.ssim_desk.specs.DateSteps.{legs_left, steps_on};
 ghost use Rattle.ssim_desk.specs.Desk.{WritesDesk, days_of_desk, finding_lines, merge_answer};
-ghost use Rattle.ssim_desk.specs.Desk.{timetable_of, took_answer};
+ghost use Rattle.ssim_desk.specs.Desk.{take_answer, timetable_of};
 ghost use Rattle.ssim_desk.specs.Meaning.{Finds, Means, Timetable, found_by};
 ghost use Rattle.ssim_desk.specs.internal.Changes.{IsChange, IsOffer};
 ghost use Rattle.ssim_desk.specs.Steps.{Merges, RefusesDesk, RefusesText, Takes};
 
 use crate::date_step::{DateHistory, history_of};
 use crate::desk::Took;
-use crate::finding_line::{FindingLine, push_lines};
-use crate::flights::{act_between, days_after, found_by, legs_after, pieces_after};
+use crate::finding_line::FindingLine;
+use crate::flights::{act_between, days_after, legs_after, lines_found, pieces_after};
 use crate::message_effect::act_in_order;
 use crate::offer::{Offer, offer_over};
 use ssim_base::{Base, DataSet, Stations, WriteFault};
@@ -142,10 +141,8 @@ impl Holdings {
     ///
     /// It moves all messages of greater references. [`crate::Intake`] takes many texts in any order.
     pub fn take(&mut self, text: &[u8]) -> Result<(Took, Reference), DeskFault>
-        ensures takes { Takes (state_of self.old) text.now (took_answer result)
+        ensures takes { Takes (state_of self.old) text.now (take_answer result)
             (map_of self.new.held) }
-        ensures says { IfOk result
-            (λ taken. (message : MessageValue) × Says self.old.base text.now taken.1 message) }
         ensures base { self.new.base ≡ self.old.base }
         ensures repeated { (reference : Reference) → result ≡ Ok (Took.Repeated, reference)
             → self.new ≡ self.old }
@@ -261,10 +258,7 @@ impl Holdings {
         ensures finds { IfOk result
             (λ lines. Finds (state_of self.now) (found_by self.now.base self.now.held)) }
     {
-        let found = found_by(self.alloc, &self.base, &self.held)?;
-        let mut lines = Vec::new(self.alloc);
-        push_lines(&mut lines, &self.held, &found)?;
-        Ok(lines)
+        lines_found(self.alloc, &self.base, &self.held)
     }
 
     /// What the data set has for a flight on a date of origin, and what each sub-message that is
@@ -406,8 +400,8 @@ impl Holdings {
     }
 }
 
-// Equal messages, which share their contents.
-fn copies(alloc: Global, messages: &[Held]) -> Result<Vec<Held>, Memory>
+/// Equal messages, which share their contents.
+pub(crate) fn copies(alloc: Global, messages: &[Held]) -> Result<Vec<Held>, Memory>
     ensures { IfOk result (λ copies. copies.items ≡ messages.now) }
 {
     let mut copies = Vec::with_capacity(alloc, messages.len())?;

@@ -8,10 +8,9 @@ ghost use Rattle.ssim_base.specs.BaseSeen.{BaseSeen};
 ghost use Rattle.ssim_base.specs.Resolve.{ResolvesIn};
 ghost use Rattle.ssim_text.specs.Message.{MessageValue};
 ghost use Rattle.ssim_text.specs.Spelling.{SpellsMessage};
-ghost use Rattle.ssim_held.specs.Held.{Says};
 ghost use Rattle.ssim_held.specs.Entries.{AreEntries, AreRising, map_of, state_of};
 ghost use Rattle.ssim_held.specs.Pages.{all_of};
-ghost use Rattle.ssim_desk.specs.Desk.{took_answer};
+ghost use Rattle.ssim_desk.specs.Desk.{take_answer};
 ghost use Rattle.ssim_desk.specs.Steps.{Takes};
 
 use crate::desk::Took;
@@ -62,10 +61,8 @@ impl Intake {
     /// Takes a text: holds its message if it is new. Returns the message's reference, too. The
     /// errors are those of `Desk::take`.
     pub fn take(&mut self, text: &[u8]) -> Result<(Took, Reference), DeskFault>
-        ensures takes { Takes (state_of self.old) text.now (took_answer result)
+        ensures takes { Takes (state_of self.old) text.now (take_answer result)
             (map_of self.new.held) }
-        ensures says { IfOk result
-            (λ taken. (message : MessageValue) × Says self.old.base text.now taken.1 message) }
         ensures base { self.new.base ≡ self.old.base }
         ensures repeated { (reference : Reference) → result ≡ Ok (Took.Repeated, reference)
             → self.new ≡ self.old }
@@ -112,8 +109,7 @@ fn hold(
     ensures takes { (base : BaseSeen) (text : List ℕ) → SpellsMessage message text
         → ResolvesIn base.records message resolved
         → Takes (record { base = base; held = map_of (all_of pages.old) }) text
-        (took_answer result) (map_of (all_of pages.new)) }
-    ensures reference { IfOk result (λ taken. taken.1 ≡ resolved.reference) }
+        (take_answer result) (map_of (all_of pages.new)) }
     ensures entries { (records : List Record) → ResolvesIn records message resolved
         → AreEntries records (all_of pages.old) → AreEntries records (all_of pages.new) }
     ensures repeated { (reference : Reference) → result ≡ Ok (Took.Repeated, reference)

@@ -1,8 +1,8 @@
 //! Desks, which hold messages over a base, and the laws of any number of desks.
 //!
 //! - [`Desk`]: a base and the messages that it holds in order of reference. `take` takes a text,
-//!   `merge` what another desk holds; `itinerary`, `cuts`, `findings` and `export` read the
-//!   schedule that the messages leave. [`Took`] and [`DeskFault`]: the results.
+//!   `merge` what another desk holds; `itinerary`, `cuts` and `export` read the schedule that the
+//!   messages leave, and `findings` what each of them found. [`Took`] and [`DeskFault`]: the results.
 //! - [`Holdings`]: the base and the messages of a desk without its timetable, for callers that ask
 //!   for none, or once for few flights or for the export.
 //! - [`Intake`]: the holdings while many messages come and go, in any order of reference.

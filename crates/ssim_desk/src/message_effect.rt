@@ -33,7 +33,7 @@ fn act_one(
     // No effect at run time. The proof reads from these uses that the flight is one.
     let _ = dated.flight.number();
     let _ = dated.flight.suffix();
-    schedule.apply_by(rows, &dated.with(&sub.action))
+    schedule.apply_sub(rows, &dated.with(&sub.action))
 }
 
 /// The sub-messages of a message act in their order. Returns what each found.

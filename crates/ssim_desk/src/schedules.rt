@@ -4,26 +4,23 @@ ghost use Rattle.std.specs.Prelude.{◌≡◌, ◌⊎◌, ◌≤◌, ◌+◌, �
 ghost use Rattle.std.specs.Prelude.{IfOk, OnOk};
 ghost use Rattle.ssim_base.specs.BaseSeen.{BaseSeen};
 ghost use Rattle.ssim_held.specs.Entries.{Entry};
-ghost use Rattle.ssim_desk.specs.internal.Changes.{HasRoom, IsAfter, IsCounted, AreSchedules};
+ghost use Rattle.ssim_desk.specs.internal.Changes.{HasRoom, IsAfter, AreSchedules};
 ghost use Rattle.ssim_desk.specs.internal.Changes.{IsReplay};
 
-use crate::replay::{MessageFindings, Replay, STEP, apply_all};
+use crate::replay::{Replay, STEP};
 use ssim_base::Base;
 use ssim_held::Held;
 use ssim_schedule::Schedule;
 use ssim_values::Memory;
 use std::alloc::Global;
 
-/// Of a base and messages in order: the schedule after them and after every 32 of them, and what
-/// each of them found.
+/// Of a base and messages in order: the schedule after them and after every 32 of them.
 #[derive(Drop)]
 pub(crate) struct Schedules {
     /// The schedule after 0, 32, 64, .. messages.
     pub checkpoints: Vec<Schedule>,
     /// The schedule after all messages.
     pub latest: Schedule,
-    /// Of each message.
-    pub found: Vec<MessageFindings>,
     /// How many messages the latest change applied to a schedule.
     pub applied: u64,
 }
@@ -36,15 +33,14 @@ impl Schedules {
     {
         let began = Schedule::of(base)?;
         let mut replay = Replay::after(alloc, &began, 0)?;
-        apply_all(alloc, base, &mut replay, held)?;
+        replay.apply_all(alloc, base, held)?;
         let mut checkpoints = Vec::with_capacity(alloc, 1)?;
         checkpoints.push(began)?;
         checkpoints.append(&mut replay.checkpoints)?;
         Ok(Schedules {
             checkpoints,
             latest: replay.latest,
-            found: replay.found,
-            applied: replay.applied,
+            applied: held.len() as u64,
         })
     }
 
@@ -59,14 +55,13 @@ impl Schedules {
     ) -> Result<Replay, Memory>
         requires is { AreSchedules base.now held.now self.now }
         requires within { at ≤ length held.now }
-        ensures counted { IfOk result IsCounted }
         ensures low { IfOk result (λ replay. replay.from ≤ at) }
         ensures near { IfOk result (λ replay. at ≤ replay.from + 31) }
         ensures replay { IfOk result (IsReplay base.now (take at held.now)) }
     {
         let from = start(held.len(), at);
         let mut replay = Replay::after(alloc, self.schedule(held.len(), from), from)?;
-        apply_all(alloc, base, &mut replay, &held[from..at])?;
+        replay.apply_all(alloc, base, &held[from..at])?;
         Ok(replay)
     }
 
@@ -95,26 +90,24 @@ impl Schedules {
         ensures latest { self.new.latest ≡ self.old.latest }
         ensures applied { self.new.applied ≡ self.old.applied }
     {
-        self.found.reserve(replay.found.len())?;
         self.checkpoints.reserve(replay.checkpoints.len())?;
         Ok(())
     }
 
-    /// Puts what follows in place of the old.
-    pub(crate) fn put(&mut self, mut replay: Replay)
-        requires { HasRoom self.old replay }
+    /// Puts what follows in place of the old. There are this many messages now.
+    pub(crate) fn put(&mut self, mut replay: Replay, count: usize)
+        requires room { HasRoom self.old replay }
+        requires within { replay.from ≤ count }
         ensures is { (base : BaseSeen) (held rest : List Entry) (at : ℕ) → at ≤ length held
             → replay.from ≤ at → AreSchedules base held self.old
             → IsReplay base (take at held ++ rest) replay
             → AreSchedules base (take at held ++ rest) self.new }
-        ensures applied { self.new.applied ≡ replay.applied }
+        ensures applied { self.new.applied + replay.from ≡ count }
     {
-        self.found.truncate(replay.from);
-        self.found.append(&mut replay.found).unwrap();
         self.checkpoints.truncate(replay.from / STEP + 1);
         self.checkpoints.append(&mut replay.checkpoints).unwrap();
         self.latest = replay.latest;
-        self.applied = replay.applied;
+        self.applied = (count - replay.from) as u64;
     }
 }
 

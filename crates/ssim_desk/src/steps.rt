@@ -2,6 +2,7 @@
 
 ghost use Rattle.std.specs.Prelude.{◌≡◌, ◌≢◌, ◌<◌, ℕ, false, length, map, slice_get, All, IfOk};
 ghost use Rattle.std.specs.Prelude.{OnErr};
+ghost use Rattle.ssim_text.specs.declared.reference.Reference.{Reference};
 ghost use Rattle.ssim_held.specs.Held.{IsDesk};
 ghost use Rattle.ssim_held.specs.Entries.{map_of, state_of};
 ghost use Rattle.ssim_desk.specs.Agreement.{DesksAgree};
@@ -12,6 +13,7 @@ use crate::desk::Took;
 use crate::holder::Holder;
 use crate::laws::any_two_desks_agree;
 use ssim_held::DeskFault;
+use ssim_text::Reference;
 use ssim_values::Memory;
 use std::alloc::Global;
 
@@ -27,10 +29,10 @@ pub enum Step {
 /// The result of a step.
 #[derive(Clone, Copy, Debug, PartialEq, Eq)]
 pub enum Answer {
-    /// The message of the text was new, and is held.
-    Taken,
-    /// The message of the text was held already.
-    Repeated,
+    /// The message of the text, which has this reference, was new, and is held.
+    Taken(Reference),
+    /// The message of the text, which has this reference, was held already.
+    Repeated(Reference),
     /// What the other desk holds is held.
     Merged,
     /// Nothing has changed.
@@ -42,11 +44,12 @@ fn take_step<D: Holder>(desk: &mut D, text: &[u8]) -> Answer
     ensures takes { Takes (state_of (D.seen desk.old)) text.now result
         (map_of (D.seen desk.new).held) }
     ensures base { (D.seen desk.new).base ≡ (D.seen desk.old).base }
-    ensures same { result ≢ Answer.Taken → desk.new ≡ desk.old }
+    ensures same { ((reference : Reference) → result ≢ Answer.Taken reference)
+        → desk.new ≡ desk.old }
 {
     match desk.take(text) {
-        Ok(Took::Taken) => Answer::Taken,
-        Ok(Took::Repeated) => Answer::Repeated,
+        Ok((Took::Taken, reference)) => Answer::Taken(reference),
+        Ok((Took::Repeated, reference)) => Answer::Repeated(reference),
         Err(fault) => Answer::Refused(fault),
     }
 }

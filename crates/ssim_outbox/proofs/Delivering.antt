@@ -1,7 +1,7 @@
 -- A message that resolves, and whose reference follows all that a desk holds, is taken, and is held
 -- after all else.
 use Rattle.std.proofs.Common.{◌≡◌, ◌≤◌, ℕ, zero, suc, List, [], ◌∷◌, ◌++◌, length, take, drop}
-use Rattle.std.proofs.Common.{Some, None, Result, Ok, Err, IfSome, IfErr, OnOk, refl, sym, ap, subst, ◌∙◌, arith}
+use Rattle.std.proofs.Common.{Some, None, Result, Ok, Err, IfOk, IfSome, IfErr, refl, sym, ap, subst, ◌∙◌, arith}
 use Rattle.std.proofs.Common.{slice_get, drop_of_length-le}
 use Rattle.std.proofs.lemmas.List.{take_all}
 use Rattle.std.specs.FinMap.{get, insert}
@@ -21,7 +21,7 @@ use Rattle.ssim_held.specs.Ordered.{Belongs}
 use Rattle.ssim_held.specs.declared.fault.DeskFault.{DeskFault}
 use Rattle.ssim_held.specs.declared.fault.DeskFault.TheVariants as fault
 use Rattle.ssim_held.proofs.Entries.{flips, map_of_with, not_held}
-use Rattle.ssim_desk.specs.Desk.{took_answer}
+use Rattle.ssim_desk.specs.Desk.{take_answer}
 use Rattle.ssim_desk.specs.Meaning.{Lists}
 use Rattle.ssim_desk.specs.Steps.{IsNew, RefusesText, Takes}
 use Rattle.ssim_desk.specs.declared.desk.Took.{Took}
@@ -98,22 +98,22 @@ module _ (old : DeskSeen) (m : MessageValue) (text : List ℕ) (resolved : Resol
   only_memory (fault.File n) h = absurd h
 
   -- a desk that takes the text as new holds the message after all else
-  pub held_after : (new : DeskSeen) → new.base ≡ old.base → AreEntries new.base.records new.held
-      → IsNew (state_of old) text (map_of new.held)
+  pub held_after : (new : DeskSeen) (r : Reference) → new.base ≡ old.base
+      → AreEntries new.base.records new.held → IsNew (state_of old) text r (map_of new.held)
       → new.held ≡ old.held ++ entry ∷ []
-  held_after new base_is are is =
+  held_after new r base_is are is =
       let es = old.held in
       let is_entry : IsEntry old.base.records entry =
       record { text = resolved; resolves = resolves; referred = refl; dated = refl } in
       let whole = take (length es) es ++ (entry ∷ drop (length es) es) in
       let other : DeskSeen = record { base = old.base; held = whole; applied = 0 } in
       let are_whole = inserted_entries old.base.records es (length es) entry entries gap is_entry in
-      let reference : is.reference ≡ resolved.reference =
-      sym (says_reference one_message old.base text resolved.reference is.reference m is.message says is.says) in
+      let reference : r ≡ resolved.reference =
+      sym (says_reference one_message old.base text resolved.reference r m is.message says is.says) in
       let message : is.message ≡ m =
-      sym (says_message one_message old.base text resolved.reference is.reference m is.message says is.says) in
+      sym (says_message one_message old.base text resolved.reference r m is.message says is.says) in
       let map_is : map_of new.held ≡ map_of whole =
-      is.added ∙ ap (λ (r : Reference). insert (map_of es) r is.message) reference
+      is.added ∙ ap (λ (q : Reference). insert (map_of es) q is.message) reference
       ∙ ap (λ (n : MessageValue). insert (map_of es) resolved.reference n) message
       ∙ sym (map_of_with es (length es) entry entries.rising gap) in
       let state : state_of new ≡ state_of other =
@@ -124,13 +124,14 @@ module _ (old : DeskSeen) (m : MessageValue) (text : List ℕ) (resolved : Resol
       ∙ appended es entry
 
   pub taken : (result : Result (Took × Reference) DeskFault) (held : HeldMessages)
-      → Takes (state_of old) text (took_answer result) held → OnOk result (IsNew (state_of old) text held)
+      → Takes (state_of old) text (take_answer result) held
+      → IfOk result (λ t. IsNew (state_of old) text t.1 held)
   taken (Ok (took.Taken, r)) held h = h
-  taken (Ok (took.Repeated, r)) held h = absurd (not_there h.0.reference h.0.message h.0.message h.0.says h.0.holds)
+  taken (Ok (took.Repeated, r)) held h = absurd (not_there r h.0.message h.0.message h.0.says h.0.holds)
   taken (Err f) held h = tt
 
   pub not_refused : (result : Result (Took × Reference) DeskFault) (held : HeldMessages)
-      → Takes (state_of old) text (took_answer result) held → IfErr result (λ f. f ≡ fault.Memory)
+      → Takes (state_of old) text (take_answer result) held → IfErr result (λ f. f ≡ fault.Memory)
   not_refused (Ok (took.Taken, r)) held h = tt
   not_refused (Ok (took.Repeated, r)) held h = tt
   not_refused (Err f) held h = only_memory f h.0

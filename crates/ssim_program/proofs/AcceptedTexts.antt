@@ -38,9 +38,10 @@ missing (Some bytes) long = elim (leb_tells (length bytes) file_limit) [
   | inr over ↦ ap (λ (b : Bool). cond b (texts_in bytes) []) over.0
 ]
 
-pub accepted : (answer : Took) → is_accepted (take_answer (Ok answer)) ≡ true
-accepted took.Taken = refl
-accepted took.Repeated = refl
+pub accepted : (answer : Took) (reference : Reference)
+    → is_accepted (take_answer (Ok (answer, reference))) ≡ true
+accepted took.Taken reference = refl
+accepted took.Repeated reference = refl
 
 -- a desk after some texts, before more of them
 pub record AfterEach (texts : List MailText) (receipts : List Receipt) (before after : DeskSeen) : Type 0 where
@@ -67,10 +68,10 @@ module _ (one : OneMessage) (again : CanonicalReadsBack) where
       }
     where
       rest : AfterEach texts later between after
-      rest = others (subst (λ (b : BaseSeen). IsValid b (map_of between.held)) (sym taken.base) (valid_take one again (state_of before) text.bytes (take_answer (Ok answer)) (map_of between.held) valid taken.takes))
+      rest = others (subst (λ (b : BaseSeen). IsValid b (map_of between.held)) (sym taken.base) (valid_take one again (state_of before) text.bytes (take_answer (Ok (answer, reference))) (map_of between.held) valid taken.takes))
 
-      step : (r : Reference) (m : MessageValue) → (get (map_of between.held) r ≡ Some m) ↔ ((get (map_of before.held) r ≡ Some m) ⊎ ((is_accepted (take_answer (Ok answer)) ≡ true) × Says before.base text.bytes r m))
-      step = take_holds one (state_of before) text.bytes (take_answer (Ok answer)) (map_of between.held) taken.takes
+      step : (r : Reference) (m : MessageValue) → (get (map_of between.held) r ≡ Some m) ↔ ((get (map_of before.held) r ≡ Some m) ⊎ ((is_accepted (take_answer (Ok (answer, reference))) ≡ true) × Says before.base text.bytes r m))
+      step = take_holds one (state_of before) text.bytes (take_answer (Ok (answer, reference))) (map_of between.held) taken.takes
 
       at_base : (more : List MailText) (behind : List Receipt) (r : Reference) (m : MessageValue)
           → ((get (map_of after.held) r ≡ Some m) ⊎ IsAccepted before.base more behind r m) ↔ ((get (map_of between.held) r ≡ Some m) ⊎ IsAccepted before.base (texts ++ more) (later ++ behind) r m)
@@ -86,7 +87,7 @@ module _ (one : OneMessage) (again : CanonicalReadsBack) where
       back : (more : List MailText) (behind : List Receipt) (r : Reference) (m : MessageValue) → (get (map_of before.held) r ≡ Some m) ⊎ (Says before.base text.bytes r m ⊎ IsAccepted before.base (texts ++ more) (later ++ behind) r m)
           → (get (map_of after.held) r ≡ Some m) ⊎ IsAccepted before.base more behind r m
       back more behind r m (inl h) = (at_base more behind r m).1 (inl ((step r m).1 (inl h)))
-      back more behind r m (inr (inl says)) = (at_base more behind r m).1 (inl ((step r m).1 (inr (accepted answer, says))))
+      back more behind r m (inr (inl says)) = (at_base more behind r m).1 (inl ((step r m).1 (inr (accepted answer reference, says))))
       back more behind r m (inr (inr s)) = (at_base more behind r m).1 (inr s)
   next_each file text texts (Refused name refused fault) later before between after (same_file, same_text, why, same) valid others =
       let rest = subst (λ (d : DeskSeen). AfterEach texts later d after) same (others (subst (λ (d : DeskSeen). IsValid d.base (map_of d.held)) (sym same) valid)) in

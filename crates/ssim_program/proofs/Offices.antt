@@ -111,8 +111,8 @@ module _ (one : OneMessage) (again : CanonicalReadsBack) (one_each : OneReferenc
         holds = λ r m. (λ h. there r m ((rest.holds r m).0 h), λ s. (rest.holds r m).1 (back r m s));
       }
     where
-      step : (r : Reference) (m : MessageValue) → (get (map_of between.held) r ≡ Some m) ↔ ((get (map_of before.held) r ≡ Some m) ⊎ ((is_accepted (take_answer (Ok answer)) ≡ true) × Says before.base text r m))
-      step = take_holds one (state_of before) text (take_answer (Ok answer)) (map_of between.held) taken.takes
+      step : (r : Reference) (m : MessageValue) → (get (map_of between.held) r ≡ Some m) ↔ ((get (map_of before.held) r ≡ Some m) ⊎ ((is_accepted (take_answer (Ok (answer, reference))) ≡ true) × Says before.base text r m))
+      step = take_holds one (state_of before) text (take_answer (Ok (answer, reference))) (map_of between.held) taken.takes
 
       there : (r : Reference) (m : MessageValue) → (get (map_of between.held) r ≡ Some m) ⊎ IsSaid files between.base names r m → (get (map_of before.held) r ≡ Some m) ⊎ IsSaid files before.base (name ∷ names) r m
       there r m (inl h) = elim ((step r m).0 h) [ inl b ↦ inl b | inr s ↦ inr (inl (text, has, s.1)) ]
@@ -122,13 +122,13 @@ module _ (one : OneMessage) (again : CanonicalReadsBack) (one_each : OneReferenc
       back r m (inl h) = inl ((step r m).1 (inl h))
       back r m (inr (inl (bytes, in_file, says))) =
           let same : bytes ≡ text = same_some bytes text (sym in_file.1 ∙ has.1) in
-          inl ((step r m).1 (inr (accepted answer, subst (λ (bs : List ℕ). Says before.base bs r m) same says)))
+          inl ((step r m).1 (inr (accepted answer reference, subst (λ (bs : List ℕ). Says before.base bs r m) same says)))
       back r m (inr (inr s)) = inr (subst (λ (b : BaseSeen). IsSaid files b names r m) (sym taken.base) s)
 
   valid_next : (files : Files) (name : Text) (before between : DeskSeen) (printed : List ℕ) → TakesText (Some files) name before between printed → IsValid before.base (map_of before.held)
       → IsValid between.base (map_of between.held)
   valid_next files name before between printed (text, has, answer, reference, taken, line) valid =
-      subst (λ (b : BaseSeen). IsValid b (map_of between.held)) (sym taken.base) (valid_take one again (state_of before) text (take_answer (Ok answer)) (map_of between.held) valid taken.takes)
+      subst (λ (b : BaseSeen). IsValid b (map_of between.held)) (sym taken.base) (valid_take one again (state_of before) text (take_answer (Ok (answer, reference))) (map_of between.held) valid taken.takes)
 
   after_texts : (files : Files) (names : List Text) (before after : DeskSeen) (printed : List ℕ) → TakesTexts (Some files) names before after printed → IsValid before.base (map_of before.held)
       → AfterTexts files names before after

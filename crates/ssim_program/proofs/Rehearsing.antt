@@ -1,24 +1,17 @@
 -- Lists that grow by one element: of loaded steps, of the lines of steps, of exports and their
 -- lines. Each result of a run has its line.
-use Rattle.std.proofs.Common.{◌≡◌, ◌∙◌, ◌+◌, ◌++◌, ◌<◌, ◌==◌, ℕ, suc, Bool, true, false, List, [], ◌∷◌, All, length, map, take, drop, get_or, Option, Some, None, refl, sym, ap, subst, add-one, drop-cons, take-append-drop, inr, ◌≤◌, arith}
+use Rattle.std.proofs.Common.{◌≡◌, ◌∙◌, ◌+◌, ◌++◌, ◌<◌, ℕ, suc, List, [], ◌∷◌, length, map, take, drop, get_or, Option, Some, None, refl, sym, ap, subst, add-one, drop-cons, take-append-drop, inr, arith}
+use Rattle.std.proofs.lemmas.Grind.{common_steps}
 use Rattle.std.proofs.lemmas.List.{length_push, map-append}
 use Rattle.std.proofs.lemmas.List.{take_more}
-use Rattle.ssim_base.specs.BaseSeen.{BaseSeen}
-use Rattle.ssim_text.specs.Grammar.{OneMessage}
-use Rattle.ssim_held.specs.Held.{DeskState, HeldMessages, Says}
-use Rattle.ssim_desk.specs.Steps.{IsInRange, MergesOne, Runs, Takes, desk_at}
+use Rattle.ssim_held.specs.Held.{DeskState}
 use Rattle.ssim_desk.specs.declared.steps.Answer.{Answer}
-use Rattle.ssim_desk.specs.declared.steps.Answer.TheVariants.{Taken, Repeated, Merged, Refused}
 use Rattle.ssim_desk.specs.declared.steps.Step.{Step}
-use Rattle.ssim_desk.specs.declared.steps.Step.TheVariants.{Take, Merge}
-use Rattle.ssim_desk.proofs.Moments.{Moment, at_step}
 use Rattle.ssim_program.specs.Files.{Files}
-use Rattle.ssim_program.specs.rehearse.Rehearsal.{AreExports, AreLoaded, AreStepLines, IsLoaded, IsOutcome, IsStepLine, Outcome, RefusesStep, RefusesStepTexts, desk_line, desk_lines}
-use Rattle.ssim_program.specs.internal.Rehearse.{HasLine, HasMergeLine, HasTakeLine, HaveLines, desk_of}
+use Rattle.ssim_program.specs.rehearse.Rehearsal.{AreExports, AreLoaded, IsLoaded, IsOutcome, Outcome, RefusesStep, RefusesStepTexts, answer_line, desk_line, desk_lines, desk_of, step_lines}
 use Rattle.ssim_program.specs.rehearse.Script.{IsFirstOther, Written, step_in}
 use Rattle.ssim_program.specs.declared.refusal.Refusal.{Refusal}
 use Rattle.ssim_program.specs.declared.rehearse.line.RehearsalLine.{RehearsalLine}
-use Rattle.ssim_program.specs.declared.rehearse.line.RehearsalLine.TheVariants as printed
 
 -- ---- one more
 
@@ -29,19 +22,15 @@ loaded_more files [] (x ∷ ss) w s are is = absurd are
 loaded_more files (y ∷ ws) [] w s are is = absurd are
 loaded_more files (y ∷ ws) (x ∷ ss) w s are is = (are.0, loaded_more files ws ss w s are.1 is)
 
-lines_more : (base : BaseSeen) (ss : List Step) (us : List Answer) (ls : List RehearsalLine)
-    (s : Step) (u : Answer) (l : RehearsalLine)
-    → AreStepLines base ss us ls → IsStepLine base s u l
-    → AreStepLines base (ss ++ s ∷ []) (us ++ u ∷ []) (ls ++ l ∷ [])
-lines_more base [] [] [] s u l are is = (is, tt)
-lines_more base [] [] (z ∷ ls) s u l are is = absurd are
-lines_more base [] (y ∷ us) [] s u l are is = absurd are
-lines_more base [] (y ∷ us) (z ∷ ls) s u l are is = absurd are
-lines_more base (x ∷ ss) [] [] s u l are is = absurd are
-lines_more base (x ∷ ss) [] (z ∷ ls) s u l are is = absurd are
-lines_more base (x ∷ ss) (y ∷ us) [] s u l are is = absurd are
-lines_more base (x ∷ ss) (y ∷ us) (z ∷ ls) s u l are is =
-    (are.0, lines_more base ss us ls s u l are.1 is)
+lines_more : (ss : List Step) (us : List Answer) (s : Step) (u : Answer) → length us ≡ length ss
+    → step_lines (ss ++ s ∷ []) (us ++ u ∷ [])
+    ≡ step_lines ss us ++ answer_line (desk_of s + 1) u ∷ []
+lines_more [] [] s u same = refl
+lines_more [] (y ∷ us) s u same = absurd (omega (arith, same))
+lines_more (x ∷ ss) [] s u same = absurd (omega (arith, same))
+lines_more (x ∷ ss) (y ∷ us) s u same =
+    ap (λ (ls : List RehearsalLine). answer_line (desk_of x + 1) y ∷ ls)
+    (lines_more ss us s u (omega (arith, same)))
 
 -- ---- the same of the first elements of lists
 
@@ -60,20 +49,20 @@ loaded_next f files xs i x ss new s lt at are is pushed =
     (loaded_more files (map f (take i xs)) ss (f (get_or xs i x)) s are
     (subst (λ y. IsLoaded files (f y) s) at is)))
 
-pub lines_next : (base : BaseSeen) (ss : List Step) (us : List Answer) (i : ℕ) (s : Step)
-    (u : Answer) (ls new : List RehearsalLine) (l : RehearsalLine) → i < length ss → i < length us
-    → s ≡ get_or ss i s → u ≡ get_or us i u → AreStepLines base (take i ss) (take i us) ls
-    → IsStepLine base s u l → new ≡ ls ++ l ∷ []
-    → AreStepLines base (take (i + 1) ss) (take (i + 1) us) new
-lines_next base ss us i s u ls new l lt lt' at at' are is pushed =
-    subst (λ xs. AreStepLines base xs (take (i + 1) us) new) (sym (take_more ss i s lt))
-    (subst (λ xs. AreStepLines base (take i ss ++ get_or ss i s ∷ []) xs new)
-    (sym (take_more us i u lt'))
-    (subst (AreStepLines base (take i ss ++ get_or ss i s ∷ []) (take i us ++ get_or us i u ∷ []))
-    (sym pushed)
-    (lines_more base (take i ss) (take i us) ls (get_or ss i s) (get_or us i u) l are
-    (subst (λ (x : Step). IsStepLine base x (get_or us i u) l) at
-    (subst (λ (x : Answer). IsStepLine base s x l) at' is)))))
+pub lines_next : (ss : List Step) (us : List Answer) (i : ℕ) (s : Step) (u : Answer)
+    → i < length ss → length us ≡ length ss → s ≡ get_or ss i s → u ≡ get_or us i u
+    → step_lines (take (i + 1) ss) (take (i + 1) us)
+    ≡ step_lines (take i ss) (take i us) ++ answer_line (desk_of s + 1) u ∷ []
+lines_next ss us i s u lt same at at' =
+    ap (λ (xs : List Step). step_lines xs (take (i + 1) us)) (take_one_more ss i s lt at)
+    ∙ ap (λ (xs : List Answer). step_lines (take i ss ++ s ∷ []) xs)
+    (take_one_more us i u (omega (arith, lt, same)) at')
+    ∙ lines_more (take i ss) (take i us) s u (grind (arith, common_steps, lt, same))
+  where
+    take_one_more : {X : Type 0} (xs : List X) (k : ℕ) (x : X) → k < length xs → x ≡ get_or xs k x
+        → take (k + 1) xs ≡ take k xs ++ x ∷ []
+    take_one_more xs k x less is =
+        take_more xs k x less ∙ ap (λ y. take k xs ++ y ∷ []) (sym is)
 
 -- ---- one more desk has its export and its line
 
@@ -177,63 +166,3 @@ pub refuses_next : {X : Type 0} (f : X → Written) (files : Option Files) (xs :
     → RefusesStepTexts files (map f xs) refusal
 refuses_next f files xs i x ss refusal lt at are is =
     inr (map f (take i xs), f x, map f (drop (i + 1) xs), map_split f xs i x lt at, (ss, are), is)
-
--- ---- each result has its line
-
-take_has : (base : BaseSeen) (n : ℕ) (desk : DeskState) (text : List ℕ) (answer : Answer)
-    (held : HeldMessages) → desk.base ≡ base → Takes desk text answer held
-    → HasTakeLine base n text answer
-take_has base n desk text Taken held same t = (
-  printed.Taken n t.reference,
-  (
-    t.reference,
-    t.message,
-    subst
-        (λ b. Says b text t.reference t.message) same t.says,
-    refl,
-  ),
-)
-take_has base n desk text Repeated held same t =
-    let k = t.0 in (
-      printed.Repeated n k.reference,
-      (k.reference, k.message, subst (λ b. Says b text k.reference k.message) same k.says, refl),
-    )
-take_has base n desk text Merged held same t = absurd t
-take_has base n desk text (Refused fault) held same t = (printed.Refused n fault, refl)
-
-merge_has : (own : Bool) (desks after : List DeskState) (into from n : ℕ) (answer : Answer)
-    → MergesOne own desks into from answer after → HasMergeLine n answer
-merge_has true desks after into from n Taken m = let never : Taken ≡ Merged = m.0 in absurd cc
-merge_has true desks after into from n Repeated m = let never : Repeated ≡ Merged = m.0 in absurd cc
-merge_has true desks after into from n Merged m = (printed.Merged n, refl)
-merge_has true desks after into from n (Refused fault) m = (printed.Refused n fault, refl)
-merge_has false desks after into from n Taken m = absurd m.merges
-merge_has false desks after into from n Repeated m = absurd m.merges
-merge_has false desks after into from n Merged m = (printed.Merged n, refl)
-merge_has false desks after into from n (Refused fault) m = (printed.Refused n fault, refl)
-
-abbrev base_at : List DeskState → ℕ → BaseSeen
-base_at desks d = let desk = desk_at desks d in desk.base
-
-step_has : (base : BaseSeen) (start : List DeskState) (steps : List Step) (answers : List Answer)
-    (step : Step) (answer : Answer)
-    → ((d : ℕ) → d < length start → base_at start d ≡ base) → Moment start steps answers step answer
-    → HasLine base step answer
-step_has base start steps answers (Take i text) answer bases m =
-    let t = m.acts in take_has base (i + 1) (desk_at m.now i) text.items answer t.held
-    (m.so_far.base i ∙ bases i m.in_range) t.takes
-step_has base start steps answers (Merge into from) answer bases m =
-    merge_has (into == from) m.now m.next into from (into + 1) answer m.acts
-
-pub have_lines : OneMessage → (base : BaseSeen) (new : DeskState) → new.base ≡ base
-    → (start after : List DeskState) (steps : List Step) (answers : List Answer)
-    → All (λ desk. desk ≡ new) start → All (IsInRange (length start)) steps
-    → Runs start steps answers after → HaveLines base steps answers
-have_lines one base new same start after steps answers each within runs k step answer is =
-    step_has base start steps answers step answer
-    (λ d lt. ap (λ (desk : DeskState). desk.base) (each d _ lt) ∙ same)
-    (at_step one start after steps answers within runs k step answer is)
-
-pub desk_below : (count : ℕ) (step : Step) → count ≤ 9 → IsInRange count step → desk_of step < 9
-desk_below count (Take i text) most is = omega (arith, most, is)
-desk_below count (Merge into from) most is = omega (arith, most, is.0)

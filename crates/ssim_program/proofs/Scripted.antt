@@ -1,21 +1,17 @@
 -- What a script that is read says of its lines, and of its steps with their texts; and desks that
 -- hold nothing.
-use Rattle.std.proofs.Common.{◌≡◌, ◌∙◌, ◌+◌, ◌++◌, ◌<◌, inl, inr, ℕ, zero, suc, List, [], ◌∷◌, All, get_or, length, map, take, Option, Some, refl, sym, ap, subst, arith}
-use Rattle.ssim_text.specs.Grammar.{OneMessage}
+use Rattle.std.proofs.Common.{◌≡◌, ◌+◌, ◌++◌, ◌<◌, inl, inr, ℕ, zero, suc, List, [], ◌∷◌, All, get_or, length, map, take, Option, Some, refl, sym, ap, subst, arith}
 use Rattle.ssim_text.specs.Left.{lines_left}
 use Rattle.ssim_held.specs.Entries.{DeskSeen, state_of}
-use Rattle.ssim_held.specs.Held.{DeskState, no_desk}
-use Rattle.ssim_desk.specs.Steps.{IsInRange, Runs, desk_at}
-use Rattle.ssim_desk.specs.declared.steps.Answer.{Answer}
+use Rattle.ssim_desk.specs.Steps.{IsInRange}
 use Rattle.ssim_desk.specs.declared.steps.Step.{Step}
 use Rattle.ssim_desk.specs.declared.steps.Step.TheVariants.{Take, Merge}
-use Rattle.ssim_desk.proofs.Moments.{at_end}
 use Rattle.ssim_program.specs.Files.{Files}
 use Rattle.ssim_program.specs.rehearse.Rehearsal.{AreLoaded, IsLoaded, RefusesStep, RefusesStepTexts, fresh}
 use Rattle.ssim_program.specs.rehearse.Script.{RefusesScript, Written, Takes, Merges, count_in}
-use Rattle.ssim_program.specs.internal.Rehearse.{HaveLines, IsOtherLine, IsStepOf}
+use Rattle.ssim_program.specs.internal.Rehearse.{IsOtherLine, IsStepOf}
 use Rattle.ssim_program.specs.declared.refusal.Refusal.{Refusal}
-use Rattle.ssim_program.proofs.Rehearsing.{have_lines, loaded_next, refuses_next}
+use Rattle.ssim_program.proofs.Rehearsing.{loaded_next, refuses_next}
 
 -- the first line is DESKS n, and another spells no step
 pub refuses_script : {X : Type 0} (f : X → ℕ × List ℕ) (text : List ℕ) (first : X) (others : List X)
@@ -68,66 +64,14 @@ pub length-map-one : {X Y : Type 0} (f : X → Y) (xs : List X) → length (map 
 length-map-one f [] = refl
 length-map-one f (x ∷ xs) = ap suc (length-map-one f xs)
 
--- ---- a run on equal desks that hold nothing
+-- ---- equal desks that hold nothing
 
--- a run of valid steps on this many equal desks, which hold nothing at the start
-pub record FreshRun : Type 0 where
-  pub one : OneMessage
-  pub empty : DeskSeen
-  pub is_fresh : empty ≡ fresh empty.base
-  pub count : ℕ
-  pub before : List DeskSeen
-  pub after : List DeskSeen
-  pub steps : List Step
-  pub answers : List Answer
-  pub each : All (λ desk. desk ≡ empty) before
-  pub many : length before ≡ count
-  pub within : All (IsInRange count) steps
-  pub runs : Runs (map state_of before) steps answers (map state_of after)
-
-module _ (r : FreshRun) where
-  abbrev start : List DeskState
-  start = map state_of r.before
-
-  abbrev end : List DeskState
-  end = map state_of r.after
-
-  pub number : length start ≡ r.count
-  number = length-map-one state_of r.before ∙ r.many
-
-  pub each_fresh : All (λ desk. desk ≡ state_of (fresh r.empty.base)) start
-  each_fresh =
-      one_state (fresh r.empty.base) r.before
-      (subst (λ (d : DeskSeen). All (λ desk. desk ≡ d) r.before) r.is_fresh r.each)
-
-  in_range : All (IsInRange (length start)) r.steps
-  in_range = subst (λ n. All (IsInRange n) r.steps) (sym number) r.within
-
-  -- each result has its line
-  pub run_has_lines : HaveLines r.empty.base r.steps r.answers
-  run_has_lines =
-      have_lines r.one r.empty.base (state_of (fresh r.empty.base)) refl start end r.steps r.answers
-      each_fresh in_range r.runs
-
-  -- the first desk has the base of all desks at the start
-  pub first_has_base : 0 < r.count → length r.after ≡ length r.before
-      → (desk other : DeskSeen) (desks : List DeskSeen) → desk ≡ get_or desks 0 other
-      → desks ≡ r.after → desk.base ≡ r.empty.base
-  first_has_base some same desk other desks is all = by r.after all same kept
-    where
-      kept : (let x = desk_at end 0 in let y = desk_at start 0 in x.base ≡ y.base)
-      kept = let far = at_end r.one start end r.steps r.answers in_range r.runs in far.base 0
-
-      first : (let x = desk_at start 0 in x.base ≡ r.empty.base)
-      first = ap (λ (x : DeskState). x.base) (each_fresh 0 no_desk (omega (arith, some, number)))
-
-      by : (ds : List DeskSeen) → desks ≡ ds → length ds ≡ length r.before
-          → (let x = desk_at (map state_of ds) 0 in let y = desk_at start 0 in x.base ≡ y.base)
-          → desk.base ≡ r.empty.base
-      by [] these size at = absurd (omega (arith, some, size, r.many))
-      by (d ∷ ds) these size at =
-          ap (λ (x : DeskSeen). x.base) (is ∙ ap (λ (xs : List DeskSeen). get_or xs 0 other) these)
-          ∙ at ∙ first
+pub each_fresh : (empty : DeskSeen) (desks : List DeskSeen) → empty ≡ fresh empty.base
+    → All (λ desk. desk ≡ empty) desks
+    → All (λ desk. desk ≡ state_of (fresh empty.base)) (map state_of desks)
+each_fresh empty desks is each =
+    one_state (fresh empty.base) desks
+    (subst (λ (d : DeskSeen). All (λ desk. desk ≡ d) desks) is each)
 
 -- one more step has its text, or has none
 pub loaded_at : {X : Type 0} (f : X → Written) (before files : Option Files) (xs : List X) (i : ℕ)

@@ -20,7 +20,7 @@ use Rattle.ssim_desk.specs.Steps.{IsInRange, desk_at}
 use Rattle.ssim_desk.specs.declared.steps.Step.{Step}
 use Rattle.ssim_program.proofs.Scripted.{loaded_in_range}
 use Rattle.ssim_program.specs.Files.{Files}
-use Rattle.ssim_program.specs.rehearse.Rehearsal.{AreEqualTo, AreExports, AreLoaded, AreSame, HasSteps, IsOutcome, IsVerdict, Outcome, desk_line, desk_lines, fresh, printed_line}
+use Rattle.ssim_program.specs.rehearse.Rehearsal.{AreEqualTo, AreExports, AreLoaded, AreSame, HasSteps, IsOutcome, IsVerdict, Outcome, desk_line, desk_lines, fresh, printed_line, step_lines}
 use Rattle.ssim_program.specs.rehearse.Script.{AreSteps, Merges, Takes, Written, desk_in, merge_in, name_in, step_in, take_in}
 use Rattle.ssim_program.specs.internal.Rehearse.{IsStepOf}
 use Rattle.ssim_program.specs.rehearse.Verdict.{EndsWithSame, IsWithoutMemory}
@@ -184,12 +184,12 @@ pub ends_with_same : OneMessage → AnyTwoDesksAgree → EndsWithSame
 ends_with_same one agree files dataset stations script bytes r reached had =
     let run = r.rehearsed in
     let ends = run.ends in
-    let front = run.step_lines ++ desk_lines 1 run.after ends.outcomes in
+    let front = step_lines r.steps run.answers ++ desk_lines 1 run.after ends.outcomes in
     let are : r.lines ≡ front ++ printed.Same ∷ [] =
-    run.all ∙ ap (λ ls. run.step_lines ++ ls)
+    run.all ∙ ap (λ ls. step_lines r.steps run.answers ++ ls)
     (ends.all ∙ ap (λ l. desk_lines 1 run.after ends.outcomes ++ l ∷ [])
     (last_is_same ends.outcomes ends.last same ends.verdict))
-    ∙ sym (append_assoc run.step_lines (desk_lines 1 run.after ends.outcomes) (printed.Same ∷ []))
+    ∙ sym (append_assoc (step_lines r.steps run.answers) (desk_lines 1 run.after ends.outcomes) (printed.Same ∷ []))
     in (
       flat_map printed_line front,
       r.printed ∙ ap (flat_map printed_line) are
@@ -239,7 +239,7 @@ ends_with_same one agree files dataset stations script bytes r reached had =
         let every = subst (AllByRecursion (λ l. IsWithoutMemory l → ⊥)) run.all
         (recursion_from_All (λ l. IsWithoutMemory l → ⊥) r.lines had) in
         let late = subst (AllByRecursion (λ l. IsWithoutMemory l → ⊥)) run.ends.all
-        (all_right (λ l. IsWithoutMemory l → ⊥) run.step_lines run.end_lines every) in
+        (all_right (λ l. IsWithoutMemory l → ⊥) (step_lines r.steps run.answers) run.end_lines every) in
         had_memory 1 run.after run.ends.outcomes run.ends.exports
         (all_left (λ l. IsWithoutMemory l → ⊥) (desk_lines 1 run.after run.ends.outcomes)
         (run.ends.last ∷ []) late)

@@ -94,7 +94,7 @@ pub record IsTaken (before : DeskSeen) (text : List ℕ) (answer : Took) (refere
     (after : DeskSeen) : Type 0 where
   pub message : MessageValue
   pub says : Says before.base text reference message
-  pub takes : Takes (state_of before) text (take_answer (Ok answer)) (map_of after.held)
+  pub takes : Takes (state_of before) text (take_answer (Ok (answer, reference))) (map_of after.held)
   pub base : after.base ≡ before.base
 
 -- the text in the file of this name is taken, and its line is printed

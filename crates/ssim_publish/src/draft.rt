@@ -75,7 +75,7 @@ pub(crate) fn act_on(
                 flight,
                 period,
             };
-            let finding = schedule.apply_by(rows, &sub)?;
+            let finding = schedule.apply_sub(rows, &sub)?;
             let rest_act = act_on(schedule, rows, rest, flight, period)?;
             Ok(rest_act && is_all_acted(finding))
         }

@@ -1,14 +1,17 @@
 -- A table in blocks: what a flight has is what its block says, and a block in place of another
 -- changes its own flights alone.
-use Rattle.std.proofs.Common.{◌≡◌, ◌≢◌, ◌⊎◌, ℕ, zero, suc, ◌+◌, ◌-◌, ◌/◌, ◌<◌, ◌≤◌, Bool, true, false, nat_eq, if◌then◌else◌, List, [], ◌∷◌, ◌++◌, length, get_or, set, replicate, inl, inr, refl, sym, ap, subst, ◌∙◌, arith, get_or-set_same, get_or-set_other}
+use Rattle.std.proofs.Common.{◌≡◌, ◌≢◌, ◌⊎◌, ℕ, zero, suc, ◌+◌, ◌-◌, ◌/◌, ◌<◌, ◌≤◌, Bool, true, false, nat_eq, if◌then◌else◌, List, [], ◌∷◌, ◌++◌, length, get_or, set, replicate, inl, inr, refl, sym, ap, subst, ◌∙◌, arith, get_or-set_same, get_or-set_other, length-set}
 use Rattle.std.specs.List.{insert}
 use Rattle.std.proofs.lemmas.Bool.{cases_eq, cases_lt}
 use Rattle.std.proofs.lemmas.Bool.Decides.{nat_tests}
-use Rattle.std.proofs.lemmas.List.{get_or_append_left, get_or-append_right, length-append}
+use Rattle.std.proofs.lemmas.List.{get_or_default, get_or_append_left, get_or-append_right, length-append}
 use Rattle.ssim_values.specs.Flight.{FlightNumber}
+use Rattle.ssim_values.specs.Period.{DayRange}
+use Rattle.ssim_periods.specs.Days.{Seen}
+use Rattle.ssim_base.specs.Timetable.{Legs}
 use Rattle.ssim_schedule.specs.internal.Blocks.{AreBlocks, AreOf, IsBlock, block_of, all_entries}
 use Rattle.ssim_base.specs.ReadBack.{place_of}
-use Rattle.ssim_schedule.specs.internal.Table.{AreRising, IsAt, IsGapFor, Table, found, key_at, no_entry}
+use Rattle.ssim_schedule.specs.internal.Table.{AddsEnds, AddsOnlyAt, AreRising, IsAt, IsGapFor, Table, found, key_at, no_entry}
 use Rattle.ssim_schedule.specs.declared.timetable.flight_table.FlightPeriods.{FlightPeriods}
 use Rattle.ssim_schedule.proofs.TableLemmas.{rising_insert, rising_set}
 
@@ -30,10 +33,10 @@ of_key k (f ∷ table) zero are within = are.0
 of_key k (f ∷ table) (suc i) are within = of_key k table i are.1 (omega (arith, within))
 
 -- an entry that is written over, or a new one in its gap
-pub block_set : (k : ℕ) (table : Table) (i : ℕ) (f : FlightPeriods) → IsBlock k table → IsAt table f.flight i → block_of f.flight ≡ k → IsBlock k (set table i f)
+block_set : (k : ℕ) (table : Table) (i : ℕ) (f : FlightPeriods) → IsBlock k table → IsAt table f.flight i → block_of f.flight ≡ k → IsBlock k (set table i f)
 block_set k table i f is at its = record { its = of_set k table i f is.its its; rising = rising_set table is.rising f i at }
 
-pub block_insert : (k : ℕ) (table : Table) (i : ℕ) (f : FlightPeriods) → IsBlock k table → IsGapFor table f.flight i → block_of f.flight ≡ k → IsBlock k (insert table i f)
+block_insert : (k : ℕ) (table : Table) (i : ℕ) (f : FlightPeriods) → IsBlock k table → IsGapFor table f.flight i → block_of f.flight ≡ k → IsBlock k (insert table i f)
 block_insert k table i f is gap its = record { its = of_insert k table i f is.its its; rising = rising_insert table is.rising f i gap }
 
 -- ---- what a flight has
@@ -73,13 +76,13 @@ module _ {X : Type 0} (field : FlightPeriods → X) where
       ∙ found-block other (k + 1) blocks j q are.1 (omega (arith, its))
 
   -- what a flight has is in its block
-  pub found_block : (other : X) (blocks : List Table) (j : ℕ) (q : FlightNumber)
+  found_block : (other : X) (blocks : List Table) (j : ℕ) (q : FlightNumber)
       → AreBlocks 0 blocks → j ≡ block_of q
       → found field other (get_or blocks j []) q ≡ found field other (all_entries blocks) q
   found_block other blocks j q are its = sym (found-block other 0 blocks j q are (omega (arith, its)))
 
   -- the same of blocks that are seen as one table
-  pub in_block : (other : X) (blocks : List Table) {view : Table} {j : ℕ} (block : Table)
+  in_block : (other : X) (blocks : List Table) {view : Table} {j : ℕ} (block : Table)
       (q : FlightNumber) → all_entries blocks ≡ view → AreBlocks 0 blocks
       → block ≡ get_or blocks j [] → j ≡ block_of q
       → found field other block q ≡ found field other view q
@@ -95,7 +98,7 @@ blocks-set k [] j new are its = tt
 blocks-set k (b ∷ blocks) zero new are its = (subst (λ n. IsBlock n new) (omega arith) its, are.1)
 blocks-set k (b ∷ blocks) (suc j) new are its = (are.0, blocks-set (k + 1) blocks j new are.1 (subst (λ n. IsBlock n new) (omega arith) its))
 
-pub blocks_set : (blocks : List Table) (j : ℕ) (new : Table) → AreBlocks 0 blocks → IsBlock j new → AreBlocks 0 (set blocks j new)
+blocks_set : (blocks : List Table) (j : ℕ) (new : Table) → AreBlocks 0 blocks → IsBlock j new → AreBlocks 0 (set blocks j new)
 blocks_set blocks j new are its = blocks-set 0 blocks j new are (subst (λ n. IsBlock n new) (omega arith) its)
 
 block-at : (k : ℕ) (blocks : List Table) (j : ℕ) → AreBlocks k blocks → j < length blocks → IsBlock (k + j) (get_or blocks j [])
@@ -104,13 +107,13 @@ block-at k (b ∷ blocks) zero are within = subst (λ n. IsBlock n b) (omega ari
 block-at k (b ∷ blocks) (suc j) are within = subst (λ n. IsBlock n (get_or blocks j [])) (omega arith) (block-at (k + 1) blocks j are.1 (omega (arith, within)))
 
 -- each block is one of its number
-pub block_at : (blocks : List Table) (j : ℕ) → AreBlocks 0 blocks → j < length blocks → IsBlock j (get_or blocks j [])
+block_at : (blocks : List Table) (j : ℕ) → AreBlocks 0 blocks → j < length blocks → IsBlock j (get_or blocks j [])
 block_at blocks j are within = subst (λ n. IsBlock n (get_or blocks j [])) (omega arith) (block-at 0 blocks j are within)
 
 -- what holds of each flight's entry in the old block and in the new one, and of entries of other
 -- blocks, which stay, holds of all
 module _ {X : Type 0} (field : FlightPeriods → X) (other : X) (P : FlightNumber → X → X → Type 0) where
-  pub each_flight : (blocks : List Table) (j : ℕ) (held new now : Table) → AreBlocks 0 blocks
+  each_flight : (blocks : List Table) (j : ℕ) (held new now : Table) → AreBlocks 0 blocks
       → j < length blocks → held ≡ get_or blocks j [] → all_entries blocks ≡ now → IsBlock j new
       → ((g : FlightNumber) → P g (found field other held g) (found field other new g)) → ((g : FlightNumber) → block_of g ≢ j → (x : X) → P g x x)
       → (g : FlightNumber)
@@ -135,7 +138,7 @@ module _ {X : Type 0} (field : FlightPeriods → X) (other : X) (P : FlightNumbe
           subst (λ (y : X). P g (found field other now g) y) same (apart g elsewhere (found field other now g))
 
 -- flights of different blocks are different
-pub apart_places : (q g : FlightNumber) (j : ℕ) → j ≡ block_of q → block_of g ≢ j → nat_eq (place_of q) (place_of g) ≡ false
+apart_places : (q g : FlightNumber) (j : ℕ) → j ≡ block_of q → block_of g ≢ j → nat_eq (place_of q) (place_of g) ≡ false
 apart_places q g j its apart = by (nat_eq (place_of q) (place_of g)) refl
   where
     by : (b : Bool) → nat_eq (place_of q) (place_of g) ≡ b → b ≡ false
@@ -143,6 +146,77 @@ apart_places q g j its apart = by (nat_eq (place_of q) (place_of g)) refl
         let same : place_of q ≡ place_of g = grind (arith, nat_tests) in
         absurd (apart (ap (λ n. n / 1024) (sym same) ∙ sym its))
     by false e = refl
+
+-- ---- the block of a flight, among blocks that are seen as one table
+
+pub record IsIn (blocks : List Table) (n : ℕ) (block now : Table) (flight : FlightNumber) : Type 0 where
+  pub are : AreBlocks 0 blocks
+  pub count : length blocks ≡ 264
+  pub within : n < length blocks
+  pub held : block ≡ get_or blocks n []
+  pub seen : all_entries blocks ≡ now
+  pub its : n ≡ block_of flight
+
+pub is_in : {blocks : List Table} {n : ℕ} {first block now : Table} {flight : FlightNumber}
+    → AreBlocks 0 blocks × (length blocks ≡ 264) → all_entries blocks ≡ now → n ≡ block_of flight
+    → n < 264 → first ≡ get_or blocks n first → block ≡ first → IsIn blocks n block now flight
+is_in {blocks = blocks} {n = n} {first = first} are seen its small at same =
+    let within : n < length blocks = omega (arith, small, are.1) in
+    record {
+      are = are.0;
+      count = are.1;
+      within = within;
+      held = same ∙ at ∙ get_or_default blocks n first [] within;
+      seen = seen;
+      its = its;
+    }
+
+module _ {blocks : List Table} {n : ℕ} {block now : Table} {flight : FlightNumber}
+    (b : IsIn blocks n block now flight)
+  where
+    pub is_block : IsBlock n block
+    is_block = subst (λ (t : Table). IsBlock n t) (sym b.held) (block_at blocks n b.are b.within)
+
+    pub has : {X : Type 0} (field : FlightPeriods → X) (other : X)
+        → found field other block flight ≡ found field other now flight
+    has field other = in_block field other blocks block flight b.seen b.are b.held b.its
+
+    -- an entry of it is written over, or put into its gap
+    pub set_block : (i : ℕ) (f : FlightPeriods) → IsAt block flight i
+        → place_of f.flight ≡ place_of flight → IsBlock n (set block i f)
+    set_block i f at same =
+        block_set n block i f is_block (record { in_range = at.in_range; its = at.its ∙ sym same })
+        (ap (λ k. k / 1024) same ∙ sym b.its)
+
+    pub insert_block : (i : ℕ) (p : Seen Legs) → IsGapFor block flight i
+        → IsBlock n (insert block i (record { flight = flight; periods = p }))
+    insert_block i p gap =
+        block_insert n block i (record { flight = flight; periods = p }) is_block gap (sym b.its)
+
+    module _ (new : Table) (is : IsBlock n new) where
+      pub with_block : AreBlocks 0 (set blocks n new) × (length (set blocks n new) ≡ 264)
+      with_block = (blocks_set blocks n new b.are is, length-set blocks n new ∙ b.count)
+
+      -- what is changed of the flight in the block is changed in all blocks
+      pub changed_in : {X : Type 0} (field : FlightPeriods → X) (other : X) (after : X → X)
+          → ((q : FlightNumber) → found field other new q
+          ≡ (if nat_eq (place_of flight) (place_of q) then after (found field other block q)
+          else found field other block q))
+          → (q : FlightNumber) → found field other (all_entries (set blocks n new)) q
+          ≡ (if nat_eq (place_of flight) (place_of q) then after (found field other now q)
+          else found field other now q)
+      changed_in field other after made =
+          each_flight field other
+          (λ q x y. y ≡ (if nat_eq (place_of flight) (place_of q) then after x else x))
+          blocks n block new now b.are b.within b.held b.seen is made
+          (λ q elsewhere x. ap (λ (t : Bool). if t then after x else x)
+          (sym (apart_places flight q n b.its elsewhere)))
+
+      pub added_in : (period : DayRange) → AddsEnds flight period block new
+          → AddsEnds flight period now (all_entries (set blocks n new))
+      added_in period adds =
+          each_flight (λ f. f.periods.cuts) [] (λ q x y. AddsOnlyAt flight period q x y)
+          blocks n block new now b.are b.within b.held b.seen is adds (λ q elsewhere x cut kept. inl kept)
 
 -- ---- all entries rise
 

@@ -21,9 +21,8 @@ use crate::effect::division_points::{lines_of, next_point};
 use crate::effect::sub_message_change::SubMessageChange;
 use crate::finding::Finding;
 use crate::schedule::Schedule;
-use crate::timetable::flight_blocks::FlightBlocks;
-use crate::timetable::flight_table::place;
-use ssim_base::{Base, Resolved, StationRow};
+use crate::timetable::flight_table::{FlightTable, place};
+use ssim_base::{Resolved, StationRow};
 use ssim_text::Action;
 use ssim_values::{Flight, Memory, Period};
 
@@ -37,7 +36,7 @@ fn is_uniform(rows: &[StationRow], action: &Action, period: &Period) -> bool
 }
 
 impl Schedule {
-    /// Applies a sub-message to each date of its period, by the rows of the base's station table.
+    /// Applies a sub-message to each date of its period, by these rows of a station table.
     /// The finding counts the dates by their results. No other flight or date changes. If memory is
     /// out, nothing has changed.
     ///
@@ -45,33 +44,7 @@ impl Schedule {
     /// touches. The new legs of `NEW` and `RPL` are made once for each part of the period in which
     /// no row of their stations begins or ends. If there are several such parts, the flight's
     /// periods are copied first; they are also copied if a copy of the schedule shares them.
-    pub fn apply_sub(&mut self, base: &Base, sub: &Resolved) -> Result<Finding, Memory>
-        ensures days { OnOk result ((g : FlightNumber)
-            → days_in self.new g ≡ after_sub base.now.rows sub.now.action.now sub.now.flight
-            sub.now.period (days_in self.old) g) }
-        ensures finding { IfOk result (λ finding. finding
-            ≡ finding_of base.now.rows sub.now.action.now sub.now.period
-            (days_in self.old sub.now.flight)) }
-
-        // A new cut is the first day or the day after the last of the period, or of a row whose
-        // station the new legs have.
-        ensures cuts { OnOk result ((g : FlightNumber)
-            → AddsPointsOf sub.now.flight base.now.rows sub.now.action.now sub.now.period g
-            (cuts_in self.old g) (cuts_in self.new g)) }
-
-        // The itinerary of a date afterwards is the action's effect if the sub-message names the
-        // flight and its period holds the date, else the itinerary before.
-        ensures each_date { OnOk result ((g : FlightNumber) (n : ℕ) → IsFlight g → n < day_count
-            → on_day (days_in self.new g) n
-            ≡ itinerary_after base.now.rows sub.now.action.now sub.now.flight sub.now.period g n
-            (on_day (days_in self.old g) n)) }
-        ensures err { OnErr result (self.new ≡ self.old) }
-    {
-        self.apply_by(base.rows(), sub)
-    }
-
-    /// Does what `apply_sub` does, by these rows of a station table.
-    pub fn apply_by(&mut self, rows: &[StationRow], sub: &Resolved) -> Result<Finding, Memory>
+    pub fn apply_sub(&mut self, rows: &[StationRow], sub: &Resolved) -> Result<Finding, Memory>
         ensures days { OnOk result ((g : FlightNumber)
             → days_in self.new g ≡ after_sub rows.now sub.now.action.now sub.now.flight
             sub.now.period (days_in self.old) g) }
@@ -102,7 +75,7 @@ impl Schedule {
     }
 }
 
-impl FlightBlocks {
+impl FlightTable {
     // Acts at once if the effect is the same on all days of the period, else on a copy of the
     // flight's periods, which replaces them after the last part.
     fn act(

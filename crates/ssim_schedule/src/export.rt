@@ -16,7 +16,7 @@ pub(crate) mod plan;
 use crate::export::lines::put_export;
 use crate::export::plan::{divide, measure};
 use crate::schedule::Schedule;
-use crate::timetable::flight_blocks::FlightBlocks;
+use crate::timetable::flight_table::FlightTable;
 use ssim_base::laws::export_bytes_read_back;
 use ssim_base::{Base, BaseFrame, DataSet, Place};
 use ssim_records::{Carrier, Header, Sink, Trailer};
@@ -160,7 +160,7 @@ pub fn export_data_set<W: Sink>(data_set: DataSet, out: &mut W) -> Result<(), Ex
 /// Writes the canonical export of a timetable between a header, a carrier and a trailer. What no
 /// copy of the timetable shares is freed flight by flight.
 fn export_frame<W: Sink>(
-    table: FlightBlocks,
+    table: FlightTable,
     header: &Header,
     carrier: &Carrier,
     trailer: &Trailer,

@@ -8,8 +8,8 @@
 //! - `Schedule::into_flights`: all flights with their [`FlightPieces`], the periods of the same
 //!   division; `Schedule::pieces_of` gives those of some flights, which [`flights_in_order`] puts in
 //!   order.
-//! - `Schedule::apply_sub` and `apply_by`: a resolved sub-message acts on each date of its period
-//!   by itself; a [`Finding`] counts the dates by what happened on them.
+//! - `Schedule::apply_sub`: a resolved sub-message acts on each date of its period by itself, by the
+//!   rows of a station table; a [`Finding`] counts the dates by what happened on them.
 //!
 //! Contracts see of a schedule what each flight has on each day (`days_in`) and its cuts
 //! (`cuts_in`), and not how it is stored.

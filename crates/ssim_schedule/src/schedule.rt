@@ -11,8 +11,7 @@ ghost use Rattle.ssim_schedule.specs.examples.Effects;
 
 use crate::itinerary::Itinerary;
 use crate::leg::PlacedLeg;
-use crate::timetable::flight_blocks::FlightBlocks;
-use crate::timetable::flight_table::place;
+use crate::timetable::flight_table::{FlightTable, place};
 use ssim_periods::Periods;
 use ssim_values::{Day, Flight, Memory};
 use std::marker::Model;
@@ -21,7 +20,7 @@ use std::marker::Model;
 /// sequence.
 #[derive(Drop)]
 pub struct Schedule {
-    pub(crate) table: FlightBlocks,
+    pub(crate) table: FlightTable,
 }
 
 impl Model for Schedule {

@@ -1,5 +1,5 @@
 -- What a text or a merge changes in the messages that are held, and the schedules after them.
-use Rattle.std.specs.Prelude.{◌≡◌, ◌⊎◌, ℕ, ◌+◌, ◌*◌, ◌/◌, ◌%◌, ◌<◌, ◌≤◌, List, ◌∷◌, ◌++◌, length, take, map}
+use Rattle.std.specs.Prelude.{◌≡◌, ◌⊎◌, ℕ, ◌+◌, ◌*◌, ◌/◌, ◌%◌, ◌≤◌, List, ◌∷◌, ◌++◌, length, take, map}
 use Rattle.std.specs.Prelude.{slice_get, Bool, true, ◌&&◌, nat_le, Contains, IsTrue, IfSome}
 use Rattle.std.specs.Prelude.{Option, None, Some}
 use Rattle.std.specs.FinMap.{get}
@@ -14,7 +14,7 @@ use Rattle.ssim_values.specs.Flight.{FlightNumber, IsFlight}
 use Rattle.ssim_held.specs.Held.{DeskState, Holds, Says}
 use Rattle.ssim_held.specs.Entries.{AreEntries, DeskSeen, Entry, IsEntry, map_of, state_of}
 use Rattle.ssim_held.specs.Ordered.{Belongs}
-use Rattle.ssim_desk.specs.{Desk.{AreDeskPoints, is_sub_point}, Meaning.{Timetable, found_by, left_by}}
+use Rattle.ssim_desk.specs.{Desk.{AreDeskPoints, is_sub_point}, Meaning.{Timetable, left_by}}
 use Rattle.ssim_desk.specs.{Steps.IsUnion, declared.schedules.Schedules.Schedules}
 use Rattle.ssim_desk.specs.declared.offer.Offer.{Offer}
 use Rattle.ssim_desk.specs.declared.offer.Offer.TheVariants.{Known, New}
@@ -47,7 +47,7 @@ abbrev pub IsChange : {A : Type 0} → DeskSeen → DeskSeen → Option (ℕ × 
 IsChange mine theirs None = IsUnion (state_of mine) (state_of theirs) (map_of mine.held)
 IsChange mine theirs (Some change) = MergeBrings mine theirs change.0 change.1.items
 
--- ---- the schedules of a desk: that after every 32 messages, the latest one, and what each message found
+-- ---- the schedules of a desk: that after every 32 messages, and the latest one
 
 -- the schedule has this timetable
 abbrev pub Shows : Flown → Timetable → Type 0
@@ -94,30 +94,19 @@ pub record AreCheckpoints (base : BaseSeen) (entries : List Entry) (first : ℕ)
 pub record AreSchedules (base : BaseSeen) (entries : List Entry)
     (schedules : Schedules) : Type 0 where
   pub latest_is : IsAfter base entries schedules.latest
-  pub found_is : schedules.found.items ≡ found_by base entries
   pub kept : AreCheckpoints base entries 0 schedules.checkpoints.items
 
--- what follows the first messages: the checkpoints, the findings, and how many messages were
--- applied
+-- what follows the first messages: the latest schedule and the checkpoints
 pub record IsReplay (base : BaseSeen) (entries : List Entry) (replay : Replay) : Type 0 where
   pub within : replay.from ≤ length entries
   pub latest_is : IsAfter base entries replay.latest
-  pub found_is : found_by base (take replay.from entries) ++ replay.found.items
-      ≡ found_by base entries
   pub kept : AreCheckpoints base entries (replay.from / 32 + 1) replay.checkpoints.items
-  pub counted : replay.applied + replay.from ≡ length entries
   pub since_is : replay.since ≡ length entries % 32
 
--- the lists have room for what follows
-pub record HasRoom (schedules : Schedules) (replay : Replay) : Type 0 where
-  pub found : vec_len schedules.found + vec_len replay.found ≤ vec_capacity schedules.found
-  pub checkpoints : vec_len schedules.checkpoints + vec_len replay.checkpoints
-      ≤ vec_capacity schedules.checkpoints
-
--- a replay counts the messages that were applied, and how many the last multiple of 32 leaves
-pub record IsCounted (replay : Replay) : Type 0 where
-  pub each : replay.applied ≡ length replay.found.items
-  pub few : replay.since < 32
+-- the list has room for what follows
+abbrev pub HasRoom : Schedules → Replay → Type 0
+HasRoom schedules replay =
+    vec_len schedules.checkpoints + vec_len replay.checkpoints ≤ vec_capacity schedules.checkpoints
 
 -- The messages from a position on are replaced. The new ones were applied, and fewer than 32 before
 -- them; only the new ones if all messages are replaced.

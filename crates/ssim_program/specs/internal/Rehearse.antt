@@ -2,20 +2,14 @@
 use Rattle.std.specs.Prelude.{◌≡◌, ◌⊎◌, ℕ, ◌<◌, List, map, Option, Some, None, Ok, Err}
 use Rattle.ssim_program.specs.declared.refusal.Refusal.{Refusal}
 use Rattle.ssim_program.specs.declared.refusal.Refusal.TheVariants as refused
-use Rattle.ssim_base.specs.BaseSeen.{BaseSeen}
 use Rattle.ssim_schedule.specs.declared.export.ExportFault.{ExportFault}
-use Rattle.ssim_desk.specs.Deliveries.{IsStep}
-use Rattle.ssim_desk.specs.declared.steps.Answer.{Answer}
-use Rattle.ssim_desk.specs.declared.steps.Step.{Step}
-use Rattle.ssim_desk.specs.declared.steps.Step.TheVariants.{Take, Merge}
 use Rattle.ssim_program.specs.rehearse.Script.{Written, Script, IsFirstOther, Takes, Merges}
-use Rattle.ssim_program.specs.declared.rehearse.line.RehearsalLine.{RehearsalLine}
 use Rattle.ssim_program.specs.declared.rehearse.outcome.Outcome as kept
 use Rattle.ssim_program.specs.declared.rehearse.outcome.Outcome.TheVariants as kept_as
 use Rattle.ssim_program.specs.declared.rehearse.script.Script as read
 use Rattle.ssim_program.specs.declared.rehearse.script.Written as spelt
 use Rattle.ssim_program.specs.declared.rehearse.script.Written.TheVariants as spelt_as
-use Rattle.ssim_program.specs.rehearse.Rehearsal.{IsTakeLine, IsMergeLine, IsStepLine, Outcome}
+use Rattle.ssim_program.specs.rehearse.Rehearsal.{Outcome}
 
 -- the refusal names the first line that spells no step, or memory ran out
 abbrev pub IsOtherLine : ℕ → List (ℕ × List ℕ) → Refusal → Type 0
@@ -35,29 +29,6 @@ as_written (spelt_as.Merge into from) = Merges into from
 -- a script as the specification sees it
 abbrev pub script_of : read.Script → Script
 script_of script = record { count = script.count; steps = map as_written script.steps.items }
-
--- the desk that a step changes
-abbrev pub desk_of : Step → ℕ
-desk_of (Take desk text) = desk
-desk_of (Merge into from) = into
-
--- the result of taking a text has a line
-abbrev pub HasTakeLine : BaseSeen → ℕ → List ℕ → Answer → Type 0
-HasTakeLine base desk text answer = (l : RehearsalLine) × IsTakeLine base desk text answer l
-
--- the result of a merge has a line
-abbrev pub HasMergeLine : ℕ → Answer → Type 0
-HasMergeLine desk answer = (l : RehearsalLine) × IsMergeLine desk answer l
-
--- the result of a step has a line
-abbrev pub HasLine : BaseSeen → Step → Answer → Type 0
-HasLine base step answer = (l : RehearsalLine) × IsStepLine base step answer l
-
--- the result of each step has a line
-abbrev pub HaveLines : BaseSeen → List Step → List Answer → Type 0
-HaveLines base steps answers =
-    (k : ℕ) (step : Step) (answer : Answer) → IsStep steps answers k step answer
-    → HasLine base step answer
 
 -- the export of a desk as the specification sees it
 abbrev pub outcome_of : kept.Outcome → Outcome

@@ -13,10 +13,8 @@ use Rattle.ssim_base.specs.Export.{line}
 use Rattle.ssim_schedule.specs.declared.export.ExportFault.{ExportFault}
 use Rattle.ssim_schedule.specs.declared.export.ExportFault.TheVariants as export
 use Rattle.ssim_base.specs.declared.note.Note.{Note}
-use Rattle.ssim_text.specs.Message.{MessageValue}
 use Rattle.ssim_text.specs.Reference.{printed_reference}
-use Rattle.ssim_text.specs.declared.reference.Reference.{Reference}
-use Rattle.ssim_held.specs.Held.{DeskState, Says}
+use Rattle.ssim_held.specs.Held.{DeskState}
 use Rattle.ssim_held.specs.Entries.{DeskSeen, state_of}
 use Rattle.ssim_desk.specs.Meaning.{Exports}
 use Rattle.ssim_desk.specs.Steps.{Runs}
@@ -60,34 +58,23 @@ printed_line l = line (rehearsal_text l)
 
 -- ---- the steps
 
--- the line for taking a text; it names the reference of a message that the text spells over the
--- base
-abbrev pub IsTakeLine : BaseSeen → ℕ → List ℕ → Answer → RehearsalLine → Type 0
-IsTakeLine base desk text Taken l = (reference : Reference) × (message : MessageValue)
-    × Says base text reference message × (l ≡ printed.Taken desk reference)
-IsTakeLine base desk text Repeated l = (reference : Reference) × (message : MessageValue)
-    × Says base text reference message × (l ≡ printed.Repeated desk reference)
-IsTakeLine base desk text Merged l = ⊥
-IsTakeLine base desk text (Refused fault) l = l ≡ printed.Refused desk fault
+-- the desk that a step changes
+abbrev pub desk_of : Step → ℕ
+desk_of (Take desk text) = desk
+desk_of (Merge into from) = into
 
--- the line of a merge
-abbrev pub IsMergeLine : ℕ → Answer → RehearsalLine → Type 0
-IsMergeLine desk Taken l = ⊥
-IsMergeLine desk Repeated l = ⊥
-IsMergeLine desk Merged l = l ≡ printed.Merged desk
-IsMergeLine desk (Refused fault) l = l ≡ printed.Refused desk fault
+-- the line of a step on the desk that is printed with this number
+abbrev pub answer_line : ℕ → Answer → RehearsalLine
+answer_line desk (Taken reference) = printed.Taken desk reference
+answer_line desk (Repeated reference) = printed.Repeated desk reference
+answer_line desk Merged = printed.Merged desk
+answer_line desk (Refused fault) = printed.Refused desk fault
 
--- the line of a step; desks are printed from 1
-abbrev pub IsStepLine : BaseSeen → Step → Answer → RehearsalLine → Type 0
-IsStepLine base (Take desk text) answer l = IsTakeLine base (desk + 1) text.items answer l
-IsStepLine base (Merge into from) answer l = IsMergeLine (into + 1) answer l
-
--- the lines of steps, in order
-abbrev pub AreStepLines : BaseSeen → List Step → List Answer → List RehearsalLine → Type 0
-AreStepLines base [] [] [] = Unit {0}
-AreStepLines base (step ∷ steps) (answer ∷ answers) (l ∷ lines) =
-    IsStepLine base step answer l × AreStepLines base steps answers lines
-AreStepLines base steps answers lines = ⊥
+-- the lines of steps, in order; desks are printed from 1
+abbrev pub step_lines : List Step → List Answer → List RehearsalLine
+step_lines (step ∷ steps) (answer ∷ answers) =
+    answer_line (desk_of step + 1) answer ∷ step_lines steps answers
+step_lines _ _ = []
 
 -- ---- the desks
 
@@ -162,11 +149,9 @@ pub record Rehearses (base : BaseSeen) (count : ℕ) (steps : List Step)
   pub answers : List Answer
   pub after : List DeskState
   pub runs : Runs start steps answers after
-  pub step_lines : List RehearsalLine
-  pub steps_printed : AreStepLines base steps answers step_lines
   pub end_lines : List RehearsalLine
   pub ends : HasEnds after end_lines
-  pub all : lines ≡ step_lines ++ end_lines
+  pub all : lines ≡ step_lines steps answers ++ end_lines
 
 -- ---- from files
 

@@ -10,8 +10,7 @@ ghost use Rattle.ssim_schedule.specs.internal.Table.{AddsEnds, ChangesOn, table_
 use crate::builder::leg_group::LegGroup;
 use crate::builder::run::{MOST, Run, add_to_runs};
 use crate::itinerary::Itinerary;
-use crate::timetable::flight_blocks::FlightBlocks;
-use crate::timetable::flight_table::place;
+use crate::timetable::flight_table::{FlightTable, place};
 use ssim_periods::Periods;
 use ssim_values::{Flight, Memory, Period};
 use std::alloc::Global;
@@ -32,7 +31,7 @@ pub(crate) struct TableBuilder {
     /// the next flight.
     runs: Vec<Run>,
     /// The other flights.
-    blocks: FlightBlocks,
+    blocks: FlightTable,
 }
 
 impl TableBuilder {
@@ -44,7 +43,7 @@ impl TableBuilder {
             current: None,
             periods: Periods::new(alloc),
             runs: Vec::with_capacity(alloc, MOST)?,
-            blocks: FlightBlocks::new(alloc)?,
+            blocks: FlightTable::new(alloc)?,
         })
     }
 
@@ -140,7 +139,7 @@ impl TableBuilder {
     }
 
     /// All flights in blocks.
-    pub(crate) fn into_blocks(self) -> Result<FlightBlocks, Memory>
+    pub(crate) fn into_blocks(self) -> Result<FlightTable, Memory>
         ensures days { IfOk result (λ blocks. (g : FlightNumber)
             → table_days blocks g ≡ table_days (table_of self) g) }
         ensures cuts { IfOk result (λ blocks. (g : FlightNumber) (cut : ℕ)

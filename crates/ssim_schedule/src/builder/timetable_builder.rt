@@ -24,7 +24,7 @@ use crate::builder::pending_segments::PendingSegments;
 use crate::builder::table_builder::TableBuilder;
 use crate::builder::wanted_dates::{are_unwanted, wanted_part};
 use crate::schedule::Schedule;
-use crate::timetable::flight_blocks::FlightBlocks;
+use crate::timetable::flight_table::FlightTable;
 use ssim_base::{Base, BaseFrame, DataSet};
 use ssim_records::{LegName, LegRecord, Record, SegmentRecord};
 use ssim_values::{Day, Flight, Memory, Period};
@@ -203,7 +203,7 @@ impl TimetableBuilder {
     }
 
     /// The timetable of the records that were added.
-    fn into_table(self) -> Result<FlightBlocks, Memory>
+    fn into_table(self) -> Result<FlightTable, Memory>
         ensures days { IfOk result (λ table. (wanted : Option (ℕ × ℕ)) (done : List Record)
             → IsBuilt wanted self done → (g : FlightNumber) → IsFlight g
             → table_days table g ≡ each_day (itinerary_wanted wanted done g)) }

@@ -10,7 +10,7 @@ ghost use Rattle.ssim_schedule.specs.internal.Plan.{IsRefusedAs, pieces_count, p
 use crate::export::ExportFault;
 use crate::itinerary::{Itinerary, MOST_RECORDS};
 use crate::timetable::copy_on_write::CopyOnWrite;
-use crate::timetable::flight_table::{FlightPeriods, FlightTable, place};
+use crate::timetable::flight_table::{Block, FlightPeriods, place};
 use ssim_periods::Periods;
 use ssim_values::{Flight, Memory, Period};
 use std::alloc::Global;
@@ -62,7 +62,7 @@ impl FlightPieces {
 /// is divided.
 pub(crate) fn divide(
     alloc: Global,
-    blocks: Vec<CopyOnWrite<FlightTable>>,
+    blocks: Vec<CopyOnWrite<Block>>,
 ) -> Result<Vec<FlightPieces>, Memory>
     ensures plan { IfOk result (λ plan. plan.items ≡ plan_of (all_entries blocks.items)) }
     ensures flights { OnOk result (All (λ f. IsFlight f.flight) (all_entries blocks.items)) }

@@ -1,15 +1,18 @@
-//! The periods of the flights of one block, in the order of the flights.
+//! The periods of each flight, in blocks of flights that copies of a schedule share.
 
-ghost use Rattle.std.specs.Prelude.{◌≡◌, ℕ, ◌<◌, ◌≤◌, nat_eq, if◌then◌else◌, List, [], length, true, All, Contains, IfOk, IfErr, OnOk, OnErr, slice_index_or};
+ghost use Rattle.std.specs.Prelude.{◌≡◌, ℕ, ◌<◌, ◌≤◌, nat_eq, if◌then◌else◌, [], true, replicate};
+ghost use Rattle.std.specs.Prelude.{All, Contains, IfOk, IfErr, IfSome, IfNone, OnOk, OnErr};
+ghost use Rattle.std.specs.Prelude.{slice_index_or};
 ghost use Rattle.std.specs.List.Sorted.{IsStrictlyIncreasing};
 ghost use Rattle.ssim_values.specs.Calendar.{weekday};
 ghost use Rattle.ssim_values.specs.Flight.{FlightNumber, IsFlight};
 ghost use Rattle.ssim_periods.specs.Calendar.{holds};
-ghost use Rattle.ssim_periods.specs.Days.{counts_on};
+ghost use Rattle.ssim_periods.specs.Days.{counts_on, each_day};
 ghost use Rattle.ssim_base.specs.Export.{flight_at};
 ghost use Rattle.ssim_base.specs.ReadBack.{place_of};
 ghost use Rattle.ssim_base.specs.Timetable.{on_day};
-ghost use Rattle.ssim_schedule.specs.internal.Blocks.{IsBlock, block_of};
+ghost use Rattle.ssim_schedule.specs.internal.Blocks.{all_entries, block_of};
+ghost use Rattle.ssim_schedule.specs.internal.Table.{AreRising, IsAt, IsGapFor};
 
 use crate::itinerary::Itinerary;
 use crate::leg::PlacedLeg;
@@ -19,6 +22,9 @@ use ssim_values::{Day, Flight, Memory, Period};
 use std::alloc::Global;
 use std::marker::Model;
 
+/// The number of blocks, so that each flight has one.
+const BLOCKS: usize = 264;
+
 /// A flight, and its itinerary on each date.
 #[derive(Drop)]
 pub(crate) struct FlightPeriods {
@@ -26,35 +32,54 @@ pub(crate) struct FlightPeriods {
     pub(crate) periods: CopyOnWrite<Periods<Itinerary>>,
 }
 
-/// The itineraries of those flights of a block that were named, by number and suffix of the flight.
-/// Their legs need not rise by sequence, as those of a `Schedule` do.
+/// The flights of nearby ranks that were named, by number and suffix.
 #[derive(Drop)]
-pub(crate) struct FlightTable {
+pub(crate) struct Block {
     flights: Vec<FlightPeriods>,
     alloc: Global,
 }
 
-impl Model for FlightTable {
-    ghost use Rattle.ssim_schedule.specs.internal.Table.{AreRising, Table};
+impl Model for Block {
+    ghost use Rattle.ssim_schedule.specs.internal.Table.{Table};
 
     ghost Value = { Table };
 
     ghost view = { λ s. s.flights.items };
+}
 
-    ghost invariant = { λ s. AreRising s.flights.items };
+/// The itineraries of the flights that were named, in blocks of flights of nearby ranks. A copy
+/// costs one pointer for each block, and a change after it a copy of one block. The legs of an
+/// itinerary need not rise by sequence, as those of a `Schedule` do.
+#[derive(Drop)]
+pub(crate) struct FlightTable {
+    blocks: Vec<CopyOnWrite<Block>>,
+    alloc: Global,
+}
+
+impl Model for FlightTable {
+    ghost use Rattle.std.specs.Prelude.{◌≡◌, length};
+    ghost use Rattle.ssim_schedule.specs.internal.Blocks.{AreBlocks, all_entries};
+    ghost use Rattle.ssim_schedule.specs.internal.Table.{Table};
+
+    ghost Value = { Table };
+
+    ghost view = { λ s. all_entries s.blocks.items };
+
+    ghost invariant = { λ s. AreBlocks 0 s.blocks.items × (length s.blocks.items ≡ 264) };
 }
 
 impl FlightTable {
-    ghost use Rattle.ssim_schedule.specs.internal.Table.{AddsEnds, AreRising, ChangesOn, IsAt, IsGapFor, table_cuts, table_days};
+    ghost use Rattle.ssim_schedule.specs.internal.Table.{AddsEnds, AreRising, ChangesOn};
+    ghost use Rattle.ssim_schedule.specs.internal.Table.{table_cuts, table_days};
 
-    /// No flight flies on any date.
-    pub(crate) fn new(alloc: Global) -> FlightTable
-        ensures { result ≡ [] }
+    /// No flight flies on any date. All blocks are there, and empty.
+    pub(crate) fn new(alloc: Global) -> Result<FlightTable, Memory>
+        ensures { IfOk result (λ table. table ≡ []) }
     {
-        FlightTable {
-            flights: Vec::new(alloc),
+        Ok(FlightTable {
+            blocks: empty_blocks(alloc)?,
             alloc,
-        }
+        })
     }
 
     /// The legs of a flight on a date of origin. The list is empty if the flight does not fly on
@@ -62,9 +87,9 @@ impl FlightTable {
     pub(crate) fn itinerary(&self, flight: &Flight, day: Day) -> &[PlacedLeg]
         ensures { result.now ≡ slice_index_or (table_days self.now flight.now) day [] }
     {
-        match self.search(*flight) {
-            Ok(place) => self.flights[place].periods.get().at(day).legs(),
-            Err(_) => &[],
+        match self.find(*flight) {
+            Some(periods) => periods.at(day).legs(),
+            None => &[],
         }
     }
 
@@ -79,10 +104,21 @@ impl FlightTable {
             → on_day (table_days self.now flight.now) m
             ≡ on_day (table_days self.now flight.now) n }
     {
-        match self.search(*flight) {
-            Ok(place) => self.flights[place].periods.get().cuts(),
-            Err(_) => &[],
+        match self.find(*flight) {
+            Some(periods) => periods.cuts(),
+            None => &[],
         }
+    }
+
+    /// The same entries. The copy and the original share each block until one of the two changes a
+    /// flight of it.
+    pub(crate) fn copy(&self) -> Result<FlightTable, Memory>
+        ensures { IfOk result (λ copy. copy ≡ self.now) }
+    {
+        Ok(FlightTable {
+            blocks: copied_blocks(self.alloc, &self.blocks)?,
+            alloc: self.alloc,
+        })
     }
 
     /// Applies a change to a flight's itinerary on each date of a period. Returns how many of the
@@ -98,33 +134,57 @@ impl FlightTable {
         ensures cuts { OnOk result (AddsEnds flight period.now self.old self.new) }
         ensures counts { IfOk result (λ counts. counts
             ≡ counts_on (holds period.now) (C.class_of change.now) (table_days self.old flight)) }
-        ensures block { (k : ℕ) → IsBlock k self.old → block_of flight ≡ k → IsBlock k self.new }
         ensures err { OnErr result (self.new ≡ self.old) }
     {
-        match self.search(flight) {
+        let alloc = self.alloc;
+        let block = self.blocks[block_number(flight)].own(alloc)?;
+        match block.search(flight) {
             Ok(place) => {
-                let own = self.flights[place].periods.own(self.alloc)?;
+                let own = block.flights[place].periods.own(alloc)?;
                 own.apply(period, change)
             }
             Err(gap) => {
-                let mut periods = Periods::new(self.alloc);
+                let mut periods = Periods::new(alloc);
                 let counts = periods.apply(period, change)?;
-                let periods = CopyOnWrite::of(self.alloc, periods)?;
-                self.flights.insert(gap, FlightPeriods { flight, periods })?;
+                let periods = CopyOnWrite::of(alloc, periods)?;
+                block
+                    .flights
+                    .insert(gap, FlightPeriods { flight, periods })?;
                 Ok(counts)
             }
         }
     }
 
-    /// Makes the dates of a flight that have equal itineraries share one copy of them.
+    /// Makes the dates of a flight that have equal itineraries share one copy of them, if no copy
+    /// shares the flight's block; else nothing is done.
     pub(crate) fn share(&mut self, flight: Flight) -> Result<(), Memory>
         ensures { self.new ≡ self.old }
     {
-        if let Ok(place) = self.search(flight) {
-            let shared = self.flights[place].periods.get().shared()?;
-            self.flights[place].periods = CopyOnWrite::of(self.alloc, shared)?;
+        let alloc = self.alloc;
+        if let Some(block) = self.blocks[block_number(flight)].unshared() {
+            if let Ok(place) = block.search(flight) {
+                let shared = block.flights[place].periods.get().shared()?;
+                block.flights[place].periods = CopyOnWrite::of(alloc, shared)?;
+            }
         }
         Ok(())
+    }
+
+    /// Does the same for those of these flights that have at least `least` cuts.
+    pub(crate) fn share_where(&mut self, flights: &[Flight], least: usize) -> Result<(), Memory>
+        ensures { self.new ≡ self.old }
+    {
+        for flight in flights {
+            if self.cuts(flight).len() >= least {
+                self.share(*flight)?;
+            }
+        }
+        Ok(())
+    }
+
+    /// The allocator of its entries.
+    pub(crate) fn allocator(&self) -> Global {
+        self.alloc
     }
 
     /// A copy of the periods of a flight. The copy shares the itineraries.
@@ -132,9 +192,9 @@ impl FlightTable {
         ensures days { IfOk result (λ p. p.days ≡ table_days self.now flight) }
         ensures cuts { IfOk result (λ p. p.cuts ≡ table_cuts self.now flight) }
     {
-        match self.search(flight) {
-            Ok(place) => self.flights[place].periods.get().copy(),
-            Err(_) => Ok(Periods::new(self.alloc)),
+        match self.find(flight) {
+            Some(periods) => periods.copy(),
+            None => Ok(Periods::new(self.alloc)),
         }
     }
 
@@ -146,22 +206,49 @@ impl FlightTable {
         ensures cuts { OnOk result ((g : FlightNumber)
             → table_cuts self.new g ≡ (if nat_eq (place_of flight) (place_of g) then periods.cuts
             else table_cuts self.old g)) }
-        ensures block { (k : ℕ) → IsBlock k self.old → block_of flight ≡ k → IsBlock k self.new }
         ensures err { OnErr result (self.new ≡ self.old) }
     {
-        let periods = CopyOnWrite::of(self.alloc, periods)?;
-        match self.search(flight) {
+        let alloc = self.alloc;
+        let periods = CopyOnWrite::of(alloc, periods)?;
+        let block = self.blocks[block_number(flight)].own(alloc)?;
+        match block.search(flight) {
             Ok(place) => {
-                self.flights[place] = FlightPeriods { flight, periods };
+                block.flights[place] = FlightPeriods { flight, periods };
                 Ok(())
             }
             Err(gap) => {
-                self.flights.insert(gap, FlightPeriods { flight, periods })?;
+                block
+                    .flights
+                    .insert(gap, FlightPeriods { flight, periods })?;
                 Ok(())
             }
         }
     }
 
+    /// The blocks, whose entries together rise by number and suffix of their flights.
+    pub(crate) fn into_blocks(self) -> Vec<CopyOnWrite<Block>>
+        ensures value { all_entries result.items ≡ self }
+        ensures rising { AreRising self }
+    {
+        self.blocks
+    }
+
+    // The periods of a flight, if it was named.
+    fn find(&self, flight: Flight) -> Option<&Periods<Itinerary>>
+        ensures some { IfSome result (λ p. (p.now.days ≡ table_days self.now flight)
+            × (p.now.cuts ≡ table_cuts self.now flight)) }
+        ensures none { IfNone result ((table_days self.now flight ≡ each_day (λ _. []))
+            × (table_cuts self.now flight ≡ [])) }
+    {
+        let block = self.blocks[block_number(flight)].get();
+        match block.search(flight) {
+            Ok(place) => Some(block.flights[place].periods.get()),
+            Err(_) => None,
+        }
+    }
+}
+
+impl Block {
     /// The entries, by number and suffix of their flights.
     pub(crate) fn into_entries(self) -> Vec<FlightPeriods>
         ensures { result.items ≡ self }
@@ -181,6 +268,7 @@ impl FlightTable {
 
     // The index of the flight's entry, or the index at which it would be inserted.
     fn search(&self, flight: Flight) -> Result<usize, usize>
+        requires { AreRising self.now }
         ensures found { IfOk result (IsAt self.now flight) }
         ensures absent { IfErr result (IsGapFor self.now flight) }
     {
@@ -193,11 +281,11 @@ impl FlightTable {
     }
 }
 
-impl Duplicate for FlightTable {
+impl Duplicate for Block {
     // The same entries. The copy and the original share the periods of each flight until one of the
     // two changes that flight.
-    fn duplicate(&self) -> Result<FlightTable, Memory> {
-        Ok(FlightTable {
+    fn duplicate(&self) -> Result<Block, Memory> {
+        Ok(Block {
             flights: copies(self.alloc, &self.flights)?,
             alloc: self.alloc,
         })
@@ -220,6 +308,38 @@ fn copies(alloc: Global, flights: &[FlightPeriods]) -> Result<Vec<FlightPeriods>
             flight: entry.flight,
             periods: entry.periods.copy()?,
         })?;
+    }
+    Ok(copies)
+}
+
+// The index of a flight's block.
+fn block_number(flight: Flight) -> usize
+    ensures value { result ≡ block_of flight }
+    ensures small { result < 264 }
+{
+    place(flight) as usize / 1024
+}
+
+fn empty_blocks(alloc: Global) -> Result<Vec<CopyOnWrite<Block>>, Memory>
+    ensures { IfOk result (λ blocks. blocks.items ≡ replicate 264 []) }
+{
+    let mut blocks = Vec::with_capacity(alloc, BLOCKS)?;
+    for _ in 0..BLOCKS {
+        let flights = Vec::new(alloc);
+        blocks.push(CopyOnWrite::of(alloc, Block { flights, alloc })?)?;
+    }
+    Ok(blocks)
+}
+
+fn copied_blocks(
+    alloc: Global,
+    blocks: &[CopyOnWrite<Block>],
+) -> Result<Vec<CopyOnWrite<Block>>, Memory>
+    ensures { IfOk result (λ copies. copies.items ≡ blocks.now) }
+{
+    let mut copies = Vec::with_capacity(alloc, blocks.len())?;
+    for block in blocks {
+        copies.push(block.copy()?)?;
     }
     Ok(copies)
 }

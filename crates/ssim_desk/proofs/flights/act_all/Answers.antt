@@ -1,9 +1,11 @@
 -- One more message acts.
-use Rattle.std.proofs.Common.{List, [], ◌∷◌, ◌++◌, take, ap, subst, ◌∙◌}
-use Rattle.ssim_schedule.specs.declared.finding.Finding.{Finding}
+use Rattle.std.proofs.Common.{◌≡◌, List, ◌++◌, take, ap, subst, ◌∙◌}
+use Rattle.ssim_text.specs.Message.{MessageValue}
+use Rattle.ssim_desk.specs.Desk.{sub_lines}
 use Rattle.ssim_desk.specs.Meaning.{after_entries, subs_findings}
+use Rattle.ssim_desk.specs.declared.finding_line.FindingLine.{FindingLine}
 use Rattle.ssim_desk.specs.internal.Changes.{Shows}
-use Rattle.ssim_desk.proofs.SomeFlights.{after_one_more, found_one_more}
+use Rattle.ssim_desk.proofs.SomeFlights.{after_one_more, lines_one_more}
 use Rattle.ssim_desk.proofs.flights.act_all.Goals as goal
 
 pub loop-held-preserved : goal.loop-held-preserved
@@ -14,11 +16,23 @@ loop-held-preserved c = λ before shows.
     let e = c.held-item.result in
     let so_far = c.loop-held.invariant before shows in
     let between = after_entries rows (take k messages) before in
+    let subs : c.subs.result.now ≡ e.message.subs =
+    c.subs.ensures.value ∙ ap (λ (m : MessageValue). m.subs) c.message.ensures in
+    let found : c.deref.result.now ≡ subs_findings rows e.message.subs e.dates between =
+    c.deref.ensures.value ∙ c.in_ok-found.ensures.found between so_far.shows in
+    let lines : sub_lines c.reference.result 1 c.subs.result.now c.deref.result.now
+    ≡ sub_lines e.reference 1 e.message.subs (subs_findings rows e.message.subs e.dates between) =
+    λ i. sub_lines (c.reference.ensures i) 1 (subs i) (found i) in
     record {
-      shows = subst (Shows c.act.new.schedule) (after_one_more rows messages k e c.loop-held-test.true c.held-item.is before) (c.in_ok-act.ensures.shows between so_far.shows);
-      found_is =
-          c.in_ok-push.ensures.items
-          ∙ ap (λ (found : List Finding). c.loop-held.found.items ++ found ∷ []) (c.new.ensures ∙ c.in_ok-act.ensures.found between so_far.shows)
-          ∙ ap (λ (found : List (List Finding)). found ++ subs_findings rows e.message.subs e.dates between ∷ []) so_far.found_is
-          ∙ found_one_more rows messages k e c.loop-held-test.true c.held-item.is before;
+      shows =
+          subst (Shows c.act.new.schedule)
+          (after_one_more rows messages k e c.loop-held-test.true c.held-item.is before)
+          (c.in_ok-found.ensures.shows between so_far.shows);
+      lines_are =
+          c.in_ok-push_subs.ensures
+          ∙ ap (λ (ls : List FindingLine). c.loop-held.lines.items ++ ls) lines
+          ∙ ap (λ (ls : List FindingLine). ls
+          ++ sub_lines e.reference 1 e.message.subs (subs_findings rows e.message.subs e.dates between))
+          so_far.lines_are
+          ∙ lines_one_more rows messages k e c.loop-held-test.true c.held-item.is before;
     }

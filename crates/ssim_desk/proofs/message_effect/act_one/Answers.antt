@@ -8,7 +8,7 @@ use Rattle.ssim_desk.proofs.Points.{adds_told}
 use Rattle.ssim_desk.proofs.Shown.{found_told, shows_told}
 use Rattle.ssim_desk.proofs.message_effect.act_one.Goals as goal
 
-exists : (c : goal.After-apply_by) → IsFlight c.args.dated.flight
+exists : (c : goal.After-apply_sub) → IsFlight c.args.dated.flight
 exists c = record {
   number_to = subst (λ n. n ≤ 9999) c.number.ensures.value c.number.ensures.bound;
   suffixed = subst (λ s. IsTrue (is_suffix s)) c.suffix.ensures.value c.suffix.ensures.suffix;
@@ -16,21 +16,21 @@ exists c = record {
 
 pub returns-clause-shows : goal.returns-clause-shows
 returns-clause-shows c =
-    on_ok c.apply_by.result
-    (λ days before shows. shows_told c.args.rows.now c.args.sub.now.action c.with.result.action.now c.args.dated c.with.result.flight c.with.result.period c.args.schedule.now c.apply_by.new.self before
+    on_ok c.apply_sub.result
+    (λ days before shows. shows_told c.args.rows.now c.args.sub.now.action c.with.result.action.now c.args.dated c.with.result.flight c.with.result.period c.args.schedule.now c.apply_sub.new.self before
     c.with.ensures.action c.with.ensures.flight c.with.ensures.period (exists c) days shows)
-    c.apply_by.ensures.days
+    c.apply_sub.ensures.days
 
 pub returns-clause-found : goal.returns-clause-found
 returns-clause-found c =
-    if_ok c.apply_by.result
+    if_ok c.apply_sub.result
     (λ finding found before shows. found_told c.args.rows.now c.args.sub.now.action c.with.result.action.now c.args.dated c.with.result.flight c.with.result.period c.args.schedule.now before finding
     c.with.ensures.action c.with.ensures.flight c.with.ensures.period (exists c) found shows)
-    c.apply_by.ensures.finding
+    c.apply_sub.ensures.finding
 
 pub returns-clause-cuts : goal.returns-clause-cuts
 returns-clause-cuts c =
-    on_ok c.apply_by.result
-    (λ cuts g is. adds_told c.args.rows.now c.with.result.action.now c.args.dated c.with.result.flight c.with.result.period g (cuts_in c.args.schedule.now g) (cuts_in c.apply_by.new.self g)
+    on_ok c.apply_sub.result
+    (λ cuts g is. adds_told c.args.rows.now c.with.result.action.now c.args.dated c.with.result.flight c.with.result.period g (cuts_in c.args.schedule.now g) (cuts_in c.apply_sub.new.self g)
     c.with.ensures.flight c.with.ensures.period (exists c) is (cuts g))
-    c.apply_by.ensures.cuts
+    c.apply_sub.ensures.cuts

@@ -1,5 +1,5 @@
 -- The message is new to the desk, and it comes last.
-use Rattle.std.proofs.Common.{◌≡◌, Result, Err, IfErr, OnOk, sym, subst, rules}
+use Rattle.std.proofs.Common.{◌≡◌, Result, Err, IfErr, IfOk, sym, subst, rules}
 use Rattle.ssim_text.specs.declared.reference.Reference.{Reference}
 use Rattle.ssim_held.specs.Entries.{map_of, state_of}
 use Rattle.ssim_held.specs.declared.fault.DeskFault.{DeskFault}
@@ -24,8 +24,9 @@ returns-clause-ok c = λ resolved resolves follows.
     let old = c.args.desk.now in
     let new = c.take.new.self in
     held_after old c.args.message.now c.text.result.now resolved c.held.ensures.kept c.text.ensures.spells
-    resolves follows new c.take.ensures.base c.held-2.ensures.kept
-    (subst (λ (r : Result (Took × Reference) DeskFault). OnOk r (IsNew (state_of old) c.text.result.now (map_of new.held)))
+    resolves follows new _ c.take.ensures.base c.held-2.ensures.kept
+    (subst (λ (r : Result (Took × Reference) DeskFault).
+    IfOk r (λ t. IsNew (state_of old) c.text.result.now t.1 (map_of new.held)))
     c.in_ok-_taken.was
     (taken old c.args.message.now c.text.result.now resolved c.held.ensures.kept c.text.ensures.spells
     resolves follows c.take.result (map_of new.held) c.take.ensures.takes))

@@ -27,7 +27,7 @@ pub returns-then-rest_act-clause-each : goal.returns-then-rest_act-clause-each
 returns-then-rest_act-clause-each t c = λ acted.
     let rows = c.args.rows.now in let action = c.in-Some.action.now in
     let flight = c.args.flight in let period = c.args.period in
-    let before = c.args.schedule.now in let mid = c.apply_by.new.self in
+    let before = c.args.schedule.now in let mid = c.apply_sub.new.self in
     let exists : IsFlight flight = record {
       number_to = subst (λ n. n ≤ 9999) c.number.ensures.value c.number.ensures.bound;
       suffixed = subst (λ s. IsTrue (is_suffix s)) c.suffix.ensures.value c.suffix.ensures.suffix;

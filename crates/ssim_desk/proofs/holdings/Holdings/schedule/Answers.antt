@@ -1,5 +1,5 @@
 -- The messages have acted on the timetable of the base.
-use Rattle.std.proofs.Common.{IfOk, subst}
+use Rattle.std.proofs.Common.{subst}
 use Rattle.ssim_base.specs.Timetable.{itinerary}
 use Rattle.ssim_held.specs.Entries.{DeskSeen}
 use Rattle.ssim_desk.specs.Desk.{timetable_of}

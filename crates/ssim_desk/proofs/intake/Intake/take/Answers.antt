@@ -1,17 +1,13 @@
 -- The message of a text is held by its reference.
-use Rattle.std.proofs.Common.{rules, ◌≡◌, Result, Err, IfOk, refl, sym, subst}
-use Rattle.ssim_base.proofs.Results.{if_ok}
-use Rattle.ssim_text.specs.Message.{MessageValue}
+use Rattle.std.proofs.Common.{rules, ◌≡◌, Result, Err, refl, sym, subst}
 use Rattle.ssim_text.specs.declared.reference.Reference.{Reference}
-use Rattle.ssim_held.specs.Held.{Says}
 use Rattle.ssim_held.specs.Entries.{DeskSeen, map_of, state_of}
 use Rattle.ssim_held.specs.Pages.{all_of}
 use Rattle.ssim_held.specs.declared.fault.DeskFault.{DeskFault}
 use Rattle.ssim_held.proofs.Resolving.{each_dated}
-use Rattle.ssim_desk.specs.Desk.{took_answer}
+use Rattle.ssim_desk.specs.Desk.{take_answer}
 use Rattle.ssim_desk.specs.Steps.{Takes}
 use Rattle.ssim_desk.specs.declared.desk.Took.{Took}
-use Rattle.ssim_desk.proofs.Changes.{says}
 use Rattle.ssim_desk.proofs.intake.Intake.take.Goals as goal
 
 pub returns-in_err-message-clause-takes : goal.returns-in_err-message-clause-takes
@@ -19,8 +15,8 @@ returns-in_err-message-clause-takes c =
     let i = c.self.inside in
     let desk : DeskSeen = record { base = i.base; held = all_of i.pages; applied = 0 } in
     let refusal : c.from_residual.result ≡ Err c.in_err-message.field-0.0 = search rules in
-    subst (λ (r : Result (Took × Reference) DeskFault). Takes (state_of c.args.self.now) c.args.text.now (took_answer r) (map_of c.args.self.now.held)) (sym refusal)
-    (subst (λ (d : DeskSeen). Takes (state_of d) c.args.text.now (took_answer (Err c.in_err-message.field-0.0)) (map_of d.held)) c.self.view_is
+    subst (λ (r : Result (Took × Reference) DeskFault). Takes (state_of c.args.self.now) c.args.text.now (take_answer r) (map_of c.args.self.now.held)) (sym refusal)
+    (subst (λ (d : DeskSeen). Takes (state_of d) c.args.text.now (take_answer (Err c.in_err-message.field-0.0)) (map_of d.held)) c.self.view_is
     (c.in_err-message.ensures.err (state_of desk) c.frame.ensures, refl))
 
 pub hold-requires-clause-dated : goal.hold-requires-clause-dated
@@ -38,15 +34,4 @@ returns-clause-takes c =
     let i = c.self.inside in
     let text = c.args.text.now in
     let read = c.in_ok-message.ensures.ok i.base.records c.frame.ensures in
-    subst (λ (d : DeskSeen). Takes (state_of d) text (took_answer c.hold.result) (map_of (all_of c.hold.new.pages))) c.self.view_is (c.hold.ensures.takes i.base text read.0 read.1)
-
-pub returns-clause-says : goal.returns-clause-says
-returns-clause-says c =
-    let i = c.self.inside in
-    let desk : DeskSeen = record { base = i.base; held = all_of i.pages; applied = 0 } in
-    let text = c.args.text.now in
-    let message = c.in_ok-message.message in
-    let read = c.in_ok-message.ensures.ok i.base.records c.frame.ensures in
-    let spoken = says (state_of desk) text message c.in_ok-message.resolved read.0 read.1 in
-    subst (λ (d : DeskSeen). IfOk c.hold.result (λ taken. (x : MessageValue) × Says d.base text taken.1 x)) c.self.view_is
-    (if_ok c.hold.result (λ taken is. (message, subst (λ (r : Reference). Says i.base text r message) (sym is) spoken)) c.hold.ensures.reference)
+    subst (λ (d : DeskSeen). Takes (state_of d) text (take_answer c.hold.result) (map_of (all_of c.hold.new.pages))) c.self.view_is (c.hold.ensures.takes i.base text read.0 read.1)

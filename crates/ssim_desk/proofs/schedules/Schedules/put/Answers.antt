@@ -7,7 +7,6 @@ use Rattle.ssim_desk.proofs.schedules.Schedules.put.Goals as goal
 pub returns-clause-is : goal.returns-clause-is
 returns-clause-is c base held rest at place low history replay =
     let old = c.args.self.now in let r = c.args.replay in
-    let found : c.append.new.self.items ≡ take r.from old.found.items ++ r.found.items = grind (arith, common_steps) in
-    let checkpoints : c.append-2.new.self.items ≡ take (r.from / 32 + 1) old.checkpoints.items ++ r.checkpoints.items = grind (arith, common_steps) in
-    put_in_place base held rest at r old (record { checkpoints = c.append-2.new.self; latest = r.latest; found = c.append.new.self; applied = r.applied })
-    place low history replay refl found checkpoints
+    let checkpoints : c.append.new.self.items
+    ≡ take (r.from / 32 + 1) old.checkpoints.items ++ r.checkpoints.items = grind (arith, common_steps) in
+    put_in_place base held rest at r old _ place low history replay refl checkpoints

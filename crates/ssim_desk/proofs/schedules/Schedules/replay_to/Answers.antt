@@ -15,5 +15,5 @@ returns-clause-replay c =
     let low : from ≤ length held = omega (arith, c.start-from.ensures.low, c.requires.within) in
     let begun = c.schedule.ensures base held refl c.requires.is in
     let first = c.in_ok-replay.ensures.nothing base (take from held) (sym (length-front held from low)) begun in
-    subst (λ (es : List Entry). IsReplay base es c.apply_all.new.replay) (split held from at c.start-from.ensures.low)
+    subst (λ (es : List Entry). IsReplay base es c.apply_all.new.self) (split held from at c.start-from.ensures.low)
     (c.in_ok-apply_all.ensures.applied (take from held) first)

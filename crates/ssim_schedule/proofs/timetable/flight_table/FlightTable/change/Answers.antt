@@ -1,159 +1,139 @@
--- An entry that is changed keeps its flight, and so the order, and a new entry in its gap keeps the
--- order; what its flight has alone is changed.
-use Rattle.std.proofs.Common.{◌≡◌, ◌+◌, ◌/◌, nat_eq, if◌then◌else◌, sym, ap, subst, ◌∙◌, get_or}
-use Rattle.std.proofs.Common.{set}
+-- The flight's entry is changed, or a new one is put into its gap, in the flight's block.
+use Rattle.std.proofs.Common.{◌≡◌, ℕ, ◌+◌, List, get_or, set, refl, sym, ap, subst, ◌∙◌}
 use Rattle.std.proofs.lemmas.List.{get_or_default}
 use Rattle.ssim_periods.specs.Calendar.{holds}
 use Rattle.ssim_periods.specs.Days.{AddsOnly, Seen, changed_on, counts_on}
-use Rattle.ssim_base.specs.ReadBack.{place_of}
 use Rattle.ssim_base.specs.Timetable.{Legs}
-use Rattle.ssim_schedule.specs.internal.Table.{AddsOnlyAt, AreRising, IsAt, Table, no_entry}
-use Rattle.ssim_schedule.specs.internal.Table.{table_cuts, table_days}
-use Rattle.ssim_schedule.proofs.ChangeLemmas.{cuts-insert, cuts-set, days-insert, days-set, days_at, no_days, own}
+use Rattle.ssim_base.specs.ReadBack.{place_of}
 use Rattle.ssim_base.proofs.Results.{if_ok, on_ok}
-use Rattle.ssim_schedule.proofs.TableLemmas.{entry_has, found_in_gap, is_at, is_gap, rising_insert}
-use Rattle.ssim_schedule.proofs.TableLemmas.{rising_set}
+use Rattle.ssim_values.specs.Flight.{FlightNumber}
 use Rattle.ssim_schedule.specs.internal.Blocks.{IsBlock}
-use Rattle.ssim_schedule.proofs.BlockLemmas.{block_insert, block_set}
+use Rattle.ssim_schedule.specs.declared.timetable.flight_table.FlightPeriods.{FlightPeriods}
+use Rattle.ssim_schedule.specs.internal.Table.{AreRising, IsAt, Table, no_entry}
+use Rattle.ssim_schedule.proofs.BlockLemmas.{IsIn, added_in, changed_in, has, insert_block, is_block}
+use Rattle.ssim_schedule.proofs.BlockLemmas.{is_in, set_block, with_block}
+use Rattle.ssim_schedule.proofs.ChangeLemmas.{cuts-insert, cuts-set, days-insert, days-set, days_at}
+use Rattle.ssim_schedule.proofs.ChangeLemmas.{no_days}
+use Rattle.ssim_schedule.proofs.TableLemmas.{entry_has, found_in_gap, is_at, is_gap}
 use Rattle.ssim_schedule.proofs.timetable.flight_table.FlightTable.change.Given as given
-use Rattle.ssim_schedule.proofs.timetable.flight_table.FlightTable.change.Goals.{After-index_mut}
+use Rattle.ssim_schedule.proofs.timetable.flight_table.FlightTable.change.Goals.{After-block}
+use Rattle.ssim_schedule.proofs.timetable.flight_table.FlightTable.change.Goals.{in-Ok+in_ok-own-in-Ok}
+use Rattle.ssim_schedule.proofs.timetable.flight_table.FlightTable.change.Goals.{in-Err+in_ok-counts-in-Err+in_ok-periods-in-Err+in_ok-insert-in-Err}
 use Rattle.ssim_schedule.proofs.timetable.flight_table.FlightTable.change.Goals as goal
 
--- ---- a flight with an entry
-
-found : (g : given.Over) (c : After-index_mut g)
-    → IsAt c.self.inside.flights.items c.args.flight c.in-Ok.place
-found g c = is_at c.self.view_is c.in-Ok.ensures.found
-
-here : (g : given.Over) (c : After-index_mut g)
-    → c.index_mut.result.now ≡ get_or c.self.inside.flights.items c.in-Ok.place no_entry
+here : (g : given.Over) (c : After-block g) → IsIn c.self.inside.blocks.items
+    c.block_number.result c.block.inside.flights.items c.args.self.now c.args.flight
 here g c =
-    c.index_mut.ensures.value
-    ∙ get_or_default c.self.inside.flights.items c.in-Ok.place c.index_mut.result.now no_entry
-    (found g c).in_range
+    is_in c.self.invariant c.self.view_is c.block_number.ensures.value c.block_number.ensures.small
+    c.index_mut.ensures.value (c.block.view_is ∙ c.in_ok-block.ensures.value)
 
--- the entry is of its own flight
-its_own : (g : given.Over) (c : After-index_mut g)
-    → IsAt c.self.inside.flights.items c.index_mut.result.now.flight c.in-Ok.place
-its_own g c =
-    own c.self.inside.flights.items c.args.flight c.in-Ok.place c.index_mut.result.now (found g c)
-    (here g c)
+pub search-requires : goal.search-requires
+search-requires g c =
+    subst (λ (t : Table). AreRising t) c.block.view_is
+    (is_block (here g (goal.at.search-requires g c).After-block)).rising
 
-pub invariant_of-self : goal.invariant_of-self
-invariant_of-self g c =
-    rising_set _ c.self.invariant _ _ (its_own g (goal.at.invariant_of-self g c).After-index_mut)
+-- ---- the entry that the search found
 
-pub invariant_of-self-in-Ok : goal.invariant_of-self-in-Ok
-invariant_of-self-in-Ok g c =
-    rising_set _ c.self.invariant _ _
-    (its_own g (goal.at.invariant_of-self-in-Ok g c).After-index_mut)
+module _ {blocks : List Table} {n : ℕ} {table now : Table} {flight : FlightNumber}
+    (b : IsIn blocks n table now flight) (i : ℕ) (at : IsAt table flight i) (f : FlightPeriods)
+    (is : f ≡ get_or table i f)
+  where
+    entry : f ≡ get_or table i no_entry
+    entry = is ∙ get_or_default table i f no_entry at.in_range
 
-pub returns-in_ok-own-in-Ok-clause-days : goal.returns-in_ok-own-in-Ok-clause-days
-returns-in_ok-own-in-Ok-clause-days g c =
-    let at = (goal.at.returns-in_ok-own-in-Ok-clause-days g c).After-index_mut in
+    changed : (p : Seen Legs)
+        → IsBlock n (set table i (record { flight = f.flight; periods = p }))
+    changed p =
+        set_block b i (record { flight = f.flight; periods = p }) at
+        (ap (λ (e : FlightPeriods). place_of e.flight) entry ∙ at.its)
+
+pub invariant_of-self-2 : goal.invariant_of-self-2
+invariant_of-self-2 g c =
+    let b = here g (goal.at.invariant_of-self-2 g c).After-block in
+    elim c.match-search.branch [
+      | in-Ok+in_ok-own-in-Ok w ↦
+          rw w.self-inside-is (with_block b _ (changed b w.in-Ok.place
+          (is_at c.block.view_is w.in-Ok.ensures.found) w.index_mut-in-Ok.result.now
+          w.index_mut-in-Ok.ensures.value w.apply.new.self))
+      | in-Err+in_ok-counts-in-Err+in_ok-periods-in-Err+in_ok-insert-in-Err w ↦
+          rw (w.self-inside-is, w.in_ok-insert-in-Err.ensures.items)
+          (with_block b _ (insert_block b w.in-Err.gap _ (is_gap c.block.view_is w.in-Err.ensures.absent)))
+    ]
+
+pub returns-clause-days : goal.returns-clause-days
+returns-clause-days g c =
+    let b = here g (goal.at.returns-clause-days g c).After-block in
+    let rising = (is_block b).rising in
     let flight = c.args.flight in
     let on = holds c.args.period.now in
     let outcome = g.C.Change.outcome c.args.change.now in
-    let own_days =
-    ap (λ (p : Seen Legs). changed_on on outcome 0 p.days) c.in_ok-own-in-Ok.ensures.value in
-    on_ok c.apply.result (λ made q.
-    days-set on outcome c.self.inside.flights.items c.self.invariant flight c.in-Ok.place
-    c.index_mut.result.now c.apply.new.self (found g at) (here g at) (made ∙ own_days) q
-    ∙ ap (λ (t : Table). if nat_eq (place_of flight) (place_of q)
-    then changed_on on outcome 0 (table_days t q) else table_days t q) c.self.view_is)
-    c.apply.ensures.days
+    elim c.match-search.branch [
+      | in-Ok+in_ok-own-in-Ok w ↦
+          let at = is_at c.block.view_is w.in-Ok.ensures.found in
+          let f = w.index_mut-in-Ok.result.now in
+          let is = w.index_mut-in-Ok.ensures.value in
+          let own_days = ap (λ (p : Seen Legs). changed_on on outcome 0 p.days) w.in_ok-own-in-Ok.ensures.value in
+          rw (w.result-is, w.self-inside-is) (on_ok w.apply.result (λ made.
+          changed_in b _ (changed b w.in-Ok.place at f is w.apply.new.self) days_at no_days
+          (changed_on on outcome 0)
+          (days-set on outcome _ rising flight w.in-Ok.place f w.apply.new.self at
+          (entry b w.in-Ok.place at f is) (made ∙ own_days))) w.apply.ensures.days)
+      | in-Err+in_ok-counts-in-Err+in_ok-periods-in-Err+in_ok-insert-in-Err w ↦
+          let gap = is_gap c.block.view_is w.in-Err.ensures.absent in
+          let p = w.in_ok-periods-in-Err.periods in
+          let made : p.days ≡ changed_on on outcome 0 no_days =
+          ap (λ (p : Seen Legs). p.days) w.in_ok-periods-in-Err.ensures
+          ∙ w.in_ok-counts-in-Err.ensures.days
+          ∙ ap (changed_on on outcome 0) w.new-periods.ensures.days in
+          rw (w.result-is, w.self-inside-is, w.in_ok-insert-in-Err.ensures.items)
+          (changed_in b _ (insert_block b w.in-Err.gap p gap) days_at no_days
+          (changed_on on outcome 0) (days-insert on outcome _ flight w.in-Err.gap p gap made))
+    ]
 
-pub returns-in_ok-own-in-Ok-clause-cuts : goal.returns-in_ok-own-in-Ok-clause-cuts
-returns-in_ok-own-in-Ok-clause-cuts g c =
-    let at = (goal.at.returns-in_ok-own-in-Ok-clause-cuts g c).After-index_mut in
-    let table = c.self.inside.flights.items in
+pub returns-clause-cuts : goal.returns-clause-cuts
+returns-clause-cuts g c =
+    let b = here g (goal.at.returns-clause-cuts g c).After-block in
+    let rising = (is_block b).rising in
     let flight = c.args.flight in
     let period = c.args.period.now in
-    let applied = c.apply.new.self in
-    let new = set table c.in-Ok.place (record {
-      flight = c.index_mut.result.now.flight;
-      periods = applied;
-    }) in
-    on_ok c.apply.result (λ only q.
-    subst (λ (t : Table). AddsOnlyAt flight period q (table_cuts t q) (table_cuts new q))
-    c.self.view_is
-    (cuts-set period table c.self.invariant flight c.in-Ok.place c.index_mut.result.now applied
-    (found g at) (here g at)
-    (subst (λ (p : Seen Legs). AddsOnly p.cuts applied.cuts period.first (period.last + 1))
-    c.in_ok-own-in-Ok.ensures.value only) q))
-    c.apply.ensures.cuts
+    elim c.match-search.branch [
+      | in-Ok+in_ok-own-in-Ok w ↦
+          let at = is_at c.block.view_is w.in-Ok.ensures.found in
+          let f = w.index_mut-in-Ok.result.now in
+          let is = w.index_mut-in-Ok.ensures.value in
+          let applied = w.apply.new.self in
+          rw (w.result-is, w.self-inside-is) (on_ok w.apply.result (λ only.
+          added_in b _ (changed b w.in-Ok.place at f is applied) period
+          (cuts-set period _ rising flight w.in-Ok.place f applied at
+          (entry b w.in-Ok.place at f is)
+          (subst (λ (p : Seen Legs). AddsOnly p.cuts applied.cuts period.first (period.last + 1))
+          w.in_ok-own-in-Ok.ensures.value only))) w.apply.ensures.cuts)
+      | in-Err+in_ok-counts-in-Err+in_ok-periods-in-Err+in_ok-insert-in-Err w ↦
+          let gap = is_gap c.block.view_is w.in-Err.ensures.absent in
+          let p = w.in_ok-periods-in-Err.periods in
+          let unused = w.new-periods.result.cuts in
+          let adds =
+          subst (λ (p : Seen Legs). AddsOnly unused p.cuts period.first (period.last + 1))
+          (sym w.in_ok-periods-in-Err.ensures) w.in_ok-counts-in-Err.ensures.cuts in
+          rw (w.result-is, w.self-inside-is, w.in_ok-insert-in-Err.ensures.items)
+          (added_in b _ (insert_block b w.in-Err.gap p gap) period
+          (cuts-insert period _ flight w.in-Err.gap p unused gap w.new-periods.ensures.cuts adds))
+    ]
 
-pub returns-in_ok-own-in-Ok-clause-counts : goal.returns-in_ok-own-in-Ok-clause-counts
-returns-in_ok-own-in-Ok-clause-counts g c =
-    let on = holds c.args.period.now in
-    let class = g.C.Change.class_of c.args.change.now in
-    let its : c.index_mut.result.now.periods.days ≡ table_days c.args.self.now c.args.flight =
-    entry_has days_at no_days c.self.view_is c.index_mut.result.now c.self.invariant
-    c.in-Ok.ensures.found c.index_mut.ensures.value in
-    if_ok c.apply.result (λ counts e. e
-    ∙ ap (λ (p : Seen Legs). counts_on on class p.days) c.in_ok-own-in-Ok.ensures.value
-    ∙ ap (counts_on on class) its) c.apply.ensures.counts
-
-pub returns-in_ok-own-in-Ok-clause-block : goal.returns-in_ok-own-in-Ok-clause-block
-returns-in_ok-own-in-Ok-clause-block g c = λ k block its.
-    let at = (goal.at.returns-in_ok-own-in-Ok-clause-block g c).After-index_mut in
-    let is = its_own g at in
-    block_set k _ _ _ (subst (λ (t : Table). IsBlock k t) (sym c.self.view_is) block) is
-    (ap (λ n. n / 1024) (sym is.its ∙ (found g at).its) ∙ its)
-
--- ---- a flight without an entry
-
-pub invariant_of-self-in_err-insert-in-Err : goal.invariant_of-self-in_err-insert-in-Err
-invariant_of-self-in_err-insert-in-Err g c =
-    subst (λ (t : Table). AreRising t) (sym c.in_err-insert-in-Err.ensures.items) c.self.invariant
-
-pub invariant_of-self-in-Err : goal.invariant_of-self-in-Err
-invariant_of-self-in-Err g c =
-    subst (λ (t : Table). AreRising t) (sym c.in_ok-insert-in-Err.ensures.items)
-    (rising_insert _ c.self.invariant _ _ (is_gap c.self.view_is c.in-Err.ensures.absent))
-
-pub returns-in_ok-insert-in-Err-clause-days : goal.returns-in_ok-insert-in-Err-clause-days
-returns-in_ok-insert-in-Err-clause-days g c = λ q.
-    let flight = c.args.flight in
-    let on = holds c.args.period.now in
-    let outcome = g.C.Change.outcome c.args.change.now in
-    let made : c.in_ok-periods-in-Err.periods.days ≡ changed_on on outcome 0 no_days =
-    ap (λ (p : Seen Legs). p.days) c.in_ok-periods-in-Err.ensures
-    ∙ c.in_ok-counts-in-Err.ensures.days
-    ∙ ap (changed_on on outcome 0) c.new-periods.ensures.days in
-    ap (λ (t : Table). table_days t q) c.in_ok-insert-in-Err.ensures.items
-    ∙ days-insert on outcome c.self.inside.flights.items flight c.in-Err.gap
-    c.in_ok-periods-in-Err.periods (is_gap c.self.view_is c.in-Err.ensures.absent) made q
-    ∙ ap (λ (t : Table). if nat_eq (place_of flight) (place_of q)
-    then changed_on on outcome 0 (table_days t q) else table_days t q) c.self.view_is
-
-pub returns-in_ok-insert-in-Err-clause-cuts : goal.returns-in_ok-insert-in-Err-clause-cuts
-returns-in_ok-insert-in-Err-clause-cuts g c = λ q.
-    let table = c.self.inside.flights.items in
-    let flight = c.args.flight in
-    let period = c.args.period.now in
-    let unused = c.new-periods.result.cuts in
-    let adds =
-    subst (λ (p : Seen Legs). AddsOnly unused p.cuts period.first (period.last + 1))
-    (sym c.in_ok-periods-in-Err.ensures) c.in_ok-counts-in-Err.ensures.cuts in
-    let only =
-    cuts-insert period table flight c.in-Err.gap c.in_ok-periods-in-Err.periods unused
-    (is_gap c.self.view_is c.in-Err.ensures.absent) c.new-periods.ensures.cuts adds q in
-    let new = c.insert.new.self.items in
-    subst (λ (t : Table). AddsOnlyAt flight period q (table_cuts t q) (table_cuts new q))
-    c.self.view_is
-    (subst (λ (t : Table). AddsOnlyAt flight period q (table_cuts table q) (table_cuts t q))
-    (sym c.in_ok-insert-in-Err.ensures.items) only)
-
-pub returns-in_ok-insert-in-Err-clause-counts : goal.returns-in_ok-insert-in-Err-clause-counts
-returns-in_ok-insert-in-Err-clause-counts g c =
-    c.in_ok-counts-in-Err.ensures.counts
-    ∙ ap (counts_on (holds c.args.period.now) (g.C.Change.class_of c.args.change.now))
-    (c.new-periods.ensures.days
-    ∙ sym (found_in_gap days_at no_days _ _ c.in-Err.gap c.in-Err.ensures.absent))
-
-pub returns-in_ok-insert-in-Err-clause-block : goal.returns-in_ok-insert-in-Err-clause-block
-returns-in_ok-insert-in-Err-clause-block g c = λ k block its.
-    subst (λ (t : Table). IsBlock k t) (sym c.in_ok-insert-in-Err.ensures.items)
-    (block_insert k _ _ _ (subst (λ (t : Table). IsBlock k t) (sym c.self.view_is) block)
-    (is_gap c.self.view_is c.in-Err.ensures.absent) its)
+pub returns-clause-counts : goal.returns-clause-counts
+returns-clause-counts g c =
+    let b = here g (goal.at.returns-clause-counts g c).After-block in
+    let counted = counts_on (holds c.args.period.now) (g.C.Change.class_of c.args.change.now) in
+    elim c.match-search.branch [
+      | in-Ok+in_ok-own-in-Ok w ↦
+          let its = entry_has days_at no_days refl w.index_mut-in-Ok.result.now (is_block b).rising
+          (is_at c.block.view_is w.in-Ok.ensures.found) w.index_mut-in-Ok.ensures.value in
+          rw w.result-is (if_ok w.apply.result (λ counts e. e
+          ∙ ap (λ (p : Seen Legs). counted p.days) w.in_ok-own-in-Ok.ensures.value
+          ∙ ap counted (its ∙ has b days_at no_days)) w.apply.ensures.counts)
+      | in-Err+in_ok-counts-in-Err+in_ok-periods-in-Err+in_ok-insert-in-Err w ↦
+          let gap = is_gap c.block.view_is w.in-Err.ensures.absent in
+          rw w.result-is (w.in_ok-counts-in-Err.ensures.counts
+          ∙ ap counted (w.new-periods.ensures.days
+          ∙ sym (found_in_gap days_at no_days _ _ w.in-Err.gap gap) ∙ has b days_at no_days))
+    ]

@@ -1,6 +1,0 @@
--- As many empty blocks as were counted.
-use Rattle.std.proofs.Common.{◌≡◌, [], replicate}
-use Rattle.ssim_schedule.proofs.timetable.flight_blocks.empty_blocks.Given as goal
-
-abbrev pub invariant-loop : goal.invariant-loop
-invariant-loop l = l.blocks.items ≡ replicate l.counter []
