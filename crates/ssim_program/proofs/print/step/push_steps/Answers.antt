@@ -5,7 +5,7 @@ use Rattle.ssim_base.specs.Export.{line}
 use Rattle.ssim_base.specs.Timetable.{Legs}
 use Rattle.ssim_desk.specs.declared.date_step.DateStep.{DateStep}
 use Rattle.ssim_program.specs.print.Shown.{legs_after, step_lines, step_text}
-use Rattle.ssim_program.proofs.command.history.push_steps.Goals as goal
+use Rattle.ssim_program.proofs.print.step.push_steps.Goals as goal
 
 pub loop-step-init : goal.loop-step-init
 loop-step-init c = refl
