@@ -56,7 +56,7 @@ struct Digits {
 
 /// The rows of a block, from Monday on.
 #[derive(Clone, Copy)]
-struct Rows<'a> {
+struct WeekdayRows<'a> {
     alloc: Global,
     dates: Dates<'a>,
     weeks: WeekRange,
@@ -64,7 +64,7 @@ struct Rows<'a> {
 
 /// The cells of a weekday; a blank before the first date and after the last.
 #[derive(Clone, Copy)]
-struct Marks<'a> {
+struct WeekdayCells<'a> {
     dates: Dates<'a>,
     weekday: usize,
     ghost within: { weekday < 7 },
@@ -165,7 +165,7 @@ fn push_block(
     push_months(alloc, lines, weeks)?;
     push_digits(lines, weeks, 0)?;
     push_digits(lines, weeks, 1)?;
-    let rows = Rows {
+    let rows = WeekdayRows {
         alloc,
         dates,
         weeks,
@@ -296,7 +296,7 @@ impl PrintedAt for Digits {
     }
 }
 
-impl PrintedAt for Rows<'_> {
+impl PrintedAt for WeekdayRows<'_> {
     ghost has = { λ rows weekday. weekday < 7 };
 
     ghost text = { λ rows weekday. row_line rows.dates.cells.now
@@ -306,7 +306,7 @@ impl PrintedAt for Rows<'_> {
         let mut row = Vec::new(self.alloc);
         row.push(b'1' + weekday as u8)?;
         row.push(b' ')?;
-        let marks = Marks {
+        let marks = WeekdayCells {
             dates: self.dates,
             weekday,
         };
@@ -315,7 +315,7 @@ impl PrintedAt for Rows<'_> {
     }
 }
 
-impl PrintedAt for Marks<'_> {
+impl PrintedAt for WeekdayCells<'_> {
     ghost has = { λ marks week. week < 5220 };
 
     ghost text = { λ marks week. mark marks.dates.cells.now
