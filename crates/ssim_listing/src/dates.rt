@@ -26,7 +26,7 @@ type LegText = (Period, Vec<u8>);
 
 /// The name of a flight.
 #[derive(Clone, Copy)]
-struct Name<'a> {
+struct FlightName<'a> {
     bytes: &'a [u8],
 }
 
@@ -43,7 +43,7 @@ pub(crate) fn push_dates(
 {
     let texts = texts_of(alloc, pieces)?;
     let dates = dates_of(alloc, &texts)?;
-    push_each(lines, &Name { bytes: name }, &dates)
+    push_each(lines, &FlightName { bytes: name }, &dates)
 }
 
 // The legs of pieces as texts, each with the period of its piece.
@@ -75,11 +75,11 @@ fn add_texts(
     Ok(())
 }
 
-impl Printed<Name<'_>> for (Day, &Vec<u8>) {
+impl Printed<FlightName<'_>> for (Day, &Vec<u8>) {
     ghost text = { λ name date. text_line name.bytes.now date.0 date.1.now.items };
 
     // Adds the flight, the date and a leg.
-    fn print(&self, name: &Name<'_>, lines: &mut Vec<u8>) -> Result<(), Memory> {
+    fn print(&self, name: &FlightName<'_>, lines: &mut Vec<u8>) -> Result<(), Memory> {
         lines.extend_from_slice(name.bytes)?;
         push_day(lines, self.0)?;
         lines.push(b' ')?;

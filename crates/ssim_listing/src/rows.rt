@@ -50,7 +50,7 @@ const HEADER: [&[u8]; 21] = [
 
 /// A flight with this name.
 #[derive(Clone, Copy)]
-struct Name<'a> {
+struct FlightRows<'a> {
     alloc: Global,
     bytes: &'a [u8],
 }
@@ -139,18 +139,18 @@ fn put_flight(
         → HasWritten rows.new (before ++ divided_rows division name.now pieces.now)) }
 {
     match division {
-        Division::Periods => put_each(rows, &Name { alloc, bytes: name }, pieces),
+        Division::Periods => put_each(rows, &FlightRows { alloc, bytes: name }, pieces),
         Division::Dates => {
             let dates = dates_of(alloc, pieces)?;
-            put_each(rows, &Name { alloc, bytes: name }, &dates)
+            put_each(rows, &FlightRows { alloc, bytes: name }, &dates)
         }
     }
 }
 
-impl Rowed<Name<'_>> for (Period, Itinerary) {
+impl Rowed<FlightRows<'_>> for (Period, Itinerary) {
     ghost text = { λ name piece. piece_rows name.bytes.now piece };
 
-    fn put(&self, name: &Name<'_>, rows: &mut RowWriter) -> Result<(), Memory> {
+    fn put(&self, name: &FlightRows<'_>, rows: &mut RowWriter) -> Result<(), Memory> {
         let first = iso_date(self.0.first());
         let last = iso_date(self.0.last());
         let days = self.0.mask().digits();
@@ -165,10 +165,10 @@ impl Rowed<Name<'_>> for (Period, Itinerary) {
     }
 }
 
-impl Rowed<Name<'_>> for (Day, &Itinerary) {
+impl Rowed<FlightRows<'_>> for (Day, &Itinerary) {
     ghost text = { λ name date. date_rows name.bytes.now (date.0, date.1.now) };
 
-    fn put(&self, name: &Name<'_>, rows: &mut RowWriter) -> Result<(), Memory> {
+    fn put(&self, name: &FlightRows<'_>, rows: &mut RowWriter) -> Result<(), Memory> {
         let date = iso_date(self.0);
         let weekday = [b'0' + self.0.weekday()];
         let head = Head {

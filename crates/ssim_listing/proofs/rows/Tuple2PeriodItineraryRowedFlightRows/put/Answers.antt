@@ -4,7 +4,7 @@ use Rattle.std.specs.List.{flat_map}
 use Rattle.ssim_values.specs.DayMask.{digits_of}
 use Rattle.ssim_listing.specs.Rows.{iso_date, leg_row}
 use Rattle.ssim_listing.specs.internal.Written.{HasWritten}
-use Rattle.ssim_listing.proofs.rows.Tuple2PeriodItineraryRowedName.put.Goals as goal
+use Rattle.ssim_listing.proofs.rows.Tuple2PeriodItineraryRowedFlightRows.put.Goals as goal
 
 pub returns : goal.returns
 returns c =

@@ -3,7 +3,7 @@ use Rattle.std.proofs.Common.{◌+◌, ◌++◌, ◌∷◌, [], List, ℕ, OnOk,
 use Rattle.std.specs.List.{flat_map}
 use Rattle.ssim_listing.specs.Rows.{leg_row}
 use Rattle.ssim_listing.specs.internal.Written.{HasWritten}
-use Rattle.ssim_listing.proofs.rows.Tuple2DayRefItineraryRowedName.put.Goals as goal
+use Rattle.ssim_listing.proofs.rows.Tuple2DayRefItineraryRowedFlightRows.put.Goals as goal
 
 pub returns : goal.returns
 returns c =
