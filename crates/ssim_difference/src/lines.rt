@@ -32,7 +32,7 @@ struct Flights {
 
 /// The name of a flight that differs.
 #[derive(Clone, Copy)]
-struct Named<'a> {
+struct ChangedFlight<'a> {
     alloc: Global,
     name: &'a [u8],
 }
@@ -96,7 +96,7 @@ impl Printed<Flights> for FlightDifference {
 
     fn print(&self, flights: &Flights, lines: &mut Vec<u8>) -> Result<(), Memory> {
         let name = name_of(flights.airline, self.flight());
-        let named = Named {
+        let named = ChangedFlight {
             alloc: flights.alloc,
             name: name.as_slice(),
         };
@@ -104,10 +104,10 @@ impl Printed<Flights> for FlightDifference {
     }
 }
 
-impl Printed<Named<'_>> for (Period, Difference) {
+impl Printed<ChangedFlight<'_>> for (Period, Difference) {
     ghost text = { λ named piece. piece_lines named.name.now piece };
 
-    fn print(&self, named: &Named<'_>, lines: &mut Vec<u8>) -> Result<(), Memory> {
+    fn print(&self, named: &ChangedFlight<'_>, lines: &mut Vec<u8>) -> Result<(), Memory> {
         push_period(lines, named.name, self.0)?;
         push_difference(named.alloc, lines, &self.1)?;
         Ok(())

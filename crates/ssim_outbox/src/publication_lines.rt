@@ -17,7 +17,7 @@ use std::io::Write;
 
 /// The texts of messages, the first of which has this reference.
 #[derive(Clone, Copy)]
-struct Texts<'a> {
+struct TextLines<'a> {
     reference: &'a Reference,
 }
 
@@ -37,7 +37,7 @@ pub(crate) fn publication_lines(
         AreLines airline reference.now messages.now subs after new lines.items) }
 {
     let mut lines = Vec::new(alloc);
-    push_each(&mut lines, &Texts { reference }, messages)?;
+    push_each(&mut lines, &TextLines { reference }, messages)?;
     let unsaid_text = unsaid_lines(alloc, airline, rows, unsaid)?;
     lines.extend_from_slice(&unsaid_text)?;
     let dates = date_count(alloc, unsaid)?;
@@ -45,10 +45,10 @@ pub(crate) fn publication_lines(
     Ok(lines)
 }
 
-impl Printed<Texts<'_>> for Message {
+impl Printed<TextLines<'_>> for Message {
     ghost text = { λ texts message. text_line texts.reference.now message };
 
-    fn print(&self, texts: &Texts<'_>, lines: &mut Vec<u8>) -> Result<(), Memory> {
+    fn print(&self, texts: &TextLines<'_>, lines: &mut Vec<u8>) -> Result<(), Memory> {
         let reference = texts.reference;
         let own = Reference {
             date: reference.date,

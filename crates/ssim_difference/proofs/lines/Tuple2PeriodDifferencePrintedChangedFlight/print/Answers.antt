@@ -4,7 +4,7 @@ use Rattle.ssim_base.specs.Export.{line}
 use Rattle.ssim_listing.specs.Lines.{period_text}
 use Rattle.ssim_listing.proofs.Joining.{joined}
 use Rattle.ssim_difference.specs.Lines.{difference_legs}
-use Rattle.ssim_difference.proofs.lines.Tuple2PeriodDifferencePrintedNamed.print.Goals as goal
+use Rattle.ssim_difference.proofs.lines.Tuple2PeriodDifferencePrintedChangedFlight.print.Goals as goal
 
 pub returns : goal.returns
 returns c =
