@@ -39,7 +39,7 @@ struct ChangedFlight<'a> {
 
 /// Old and new legs, which are printed by sequence.
 #[derive(Clone, Copy)]
-struct Legs<'a, 'b> {
+struct LegPairs<'a, 'b> {
     alloc: Global,
     old: &'a [PlacedLeg],
     new: &'b [PlacedLeg],
@@ -137,7 +137,7 @@ fn push_changed_legs(
     ensures { OnOk result (lines.new.items ≡ lines.old.items ++ changed_legs old.now new.now) }
 {
     push_none(lines, b"- no flight", old)?;
-    push_range(lines, &Legs { alloc, old, new }, 1, 100)?;
+    push_range(lines, &LegPairs { alloc, old, new }, 1, 100)?;
     push_none(lines, b"+ no flight", new)
 }
 
@@ -152,7 +152,7 @@ fn push_none(lines: &mut Vec<u8>, text: &[u8], legs: &[PlacedLeg]) -> Result<(),
     Ok(())
 }
 
-impl PrintedAt for Legs<'_, '_> {
+impl PrintedAt for LegPairs<'_, '_> {
     ghost has = { λ legs sequence. sequence < 100 };
 
     ghost text = { λ legs sequence. sequence_lines legs.old.now legs.new.now sequence };

@@ -3,7 +3,7 @@ use Rattle.std.proofs.Common.{◌∙◌, ◌++◌, Option, ap₂}
 use Rattle.std.proofs.lemmas.Result.{on_ok_weaker}
 use Rattle.ssim_base.specs.Timetable.{LegValue}
 use Rattle.ssim_difference.specs.Lines.{pair_lines}
-use Rattle.ssim_difference.proofs.lines.LegsPrintedAt.print_at.Goals as goal
+use Rattle.ssim_difference.proofs.lines.LegPairsPrintedAt.print_at.Goals as goal
 
 pub returns : goal.returns
 returns c =
