@@ -8,6 +8,7 @@ ghost use Rattle.ssim_board.specs.Lines.{warning_text};
 
 use crate::local_time::LocalTime;
 use crate::movement::{Movement, MovementKind};
+use ssim_lines::{Printed, push_blanks, push_each, written};
 use ssim_listing::{name_of, push_sequence, push_shown};
 use ssim_values::{Airline, Day, Memory};
 use std::alloc::Global;
@@ -26,27 +27,21 @@ pub fn board_lines(
     if movements.is_empty() {
         lines.extend_from_slice(b"no flight\n")?;
     }
-    for movement in movements {
-        push_movement(&mut lines, airline, date, movement)?;
-    }
+    push_each(&mut lines, &(airline, date), movements)?;
     Ok(lines)
 }
 
-// Adds the line of a departure or an arrival.
-fn push_movement(
-    lines: &mut Vec<u8>,
-    airline: Airline,
-    date: Day,
-    movement: &Movement,
-) -> Result<(), Memory>
-    ensures { OnOk result
-        (lines.new.items ≡ lines.old.items ++ movement_line airline date movement.now) }
-{
-    push_flight(lines, airline, movement)?;
-    push_leg(lines, movement)?;
-    push_other(lines, date, movement)?;
-    lines.push(b'\n')?;
-    Ok(())
+impl Printed<(Airline, Day)> for Movement {
+    ghost text = { λ board movement. movement_line board.0 board.1 movement };
+
+    // Adds the line of a departure or an arrival.
+    fn print(&self, board: &(Airline, Day), lines: &mut Vec<u8>) -> Result<(), Memory> {
+        push_flight(lines, board.0, self)?;
+        push_leg(lines, self)?;
+        push_other(lines, board.1, self)?;
+        lines.push(b'\n')?;
+        Ok(())
+    }
 }
 
 // Adds the time, the kind, the designator and the date of origin.
@@ -80,16 +75,6 @@ fn push_padded(lines: &mut Vec<u8>, text: &[u8]) -> Result<(), Memory>
 {
     lines.extend_from_slice(text)?;
     push_blanks(lines, 8_usize.saturating_sub(text.len()))
-}
-
-// Adds a number of blanks.
-fn push_blanks(lines: &mut Vec<u8>, count: usize) -> Result<(), Memory>
-    ensures { OnOk result (lines.new.items ≡ lines.old.items ++ replicate count 32) }
-{
-    for number in 0..count {
-        lines.push(b' ')?;
-    }
-    Ok(())
 }
 
 // Adds the leg sequence, the aircraft type and the other station.
@@ -136,10 +121,7 @@ fn push_number(lines: &mut Vec<u8>, sign: &[u8], number: u16) -> Result<(), Memo
     ensures { OnOk result (lines.new.items ≡ lines.old.items ++ (sign.now ++ decimal number)) }
 {
     lines.extend_from_slice(sign)?;
-    match write!(lines, "{number}") {
-        Ok(()) => Ok(()),
-        Err(_) => Err(Memory),
-    }
+    written(write!(lines, "{number}"))
 }
 
 // The warning that the times are uncertain, or nothing.

@@ -2,7 +2,7 @@
 -- Weeks are counted from 0, the week of 01JAN00, a Saturday: its Monday would be five days before.
 -- A cell is the letter of a day, or a full stop if the day has none.
 use Rattle.std.specs.Prelude.{ℕ, ◌+◌, ◌-◌, ◌*◌, ◌/◌, Bool, not, ◌&&◌, ◌||◌, ◌==◌, nat_eq, nat_le}
-use Rattle.std.specs.Prelude.{nat_lt, if◌then◌else◌, List, [], ◌∷◌, ◌++◌, map, take, drop, length}
+use Rattle.std.specs.Prelude.{nat_lt, if◌then◌else◌, List, [], ◌∷◌, ◌++◌, take, drop, length}
 use Rattle.std.specs.Prelude.{slice_index, slice_index_or}
 use Rattle.std.specs.List.{flat_map, list_any, range_with_len}
 use Rattle.std.specs.Str.{bytes_eq}
@@ -89,23 +89,23 @@ abbrev pub months_line : ℕ → ℕ → List ℕ
 months_line from end = trimmed_line (32 ∷ 32 ∷ flat_map (name_above from end) (weeks from end))
 
 -- a digit of the day of the month above a week: place 0 for the tens, 1 for the ones
-abbrev pub digit_above : ℕ → ℕ → ℕ
-digit_above place week = slice_index (day_text (monday week)) place
+abbrev pub digit_above : ℕ → ℕ → List ℕ
+digit_above place week = slice_index (day_text (monday week)) place ∷ []
 
 -- this digit above each week
 abbrev pub digits_line : ℕ → ℕ → ℕ → List ℕ
-digits_line from end place = 32 ∷ 32 ∷ map (digit_above place) (weeks from end) ++ 10 ∷ []
+digits_line from end place = 32 ∷ 32 ∷ flat_map (digit_above place) (weeks from end) ++ 10 ∷ []
 
 -- the cell of a weekday in a week; a blank before the first date and after the last
-abbrev pub mark : List ℕ → ℕ → ℕ → ℕ → ℕ → ℕ
+abbrev pub mark : List ℕ → ℕ → ℕ → ℕ → ℕ → List ℕ
 mark cells first last weekday week =
     if nat_le (first + 5) (7 * week + weekday) && nat_le (7 * week + weekday) (last + 5)
-    then slice_index_or cells (7 * week + weekday - 5) 46 else 32
+    then slice_index_or cells (7 * week + weekday - 5) 46 ∷ [] else 32 ∷ []
 
 -- the row of a weekday, 0 for Monday
 abbrev pub row_line : List ℕ → ℕ → ℕ → ℕ → ℕ → ℕ → List ℕ
 row_line cells first last from end weekday =
-    trimmed_line ((49 + weekday) ∷ 32 ∷ map (mark cells first last weekday) (weeks from end))
+    trimmed_line ((49 + weekday) ∷ 32 ∷ flat_map (mark cells first last weekday) (weeks from end))
 
 -- a block, which an empty line ends
 abbrev pub block : List ℕ → List ℕ → ℕ → ℕ → ℕ → ℕ → List ℕ

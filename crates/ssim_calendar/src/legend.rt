@@ -1,6 +1,6 @@
 //! The legend of a calendar: the number of dates and the texts of each letter.
 
-ghost use Rattle.std.specs.Prelude.{◌≡◌, ◌++◌, ◌≤◌, length, map, replicate, slice_index_or};
+ghost use Rattle.std.specs.Prelude.{◌≡◌, ◌++◌, ◌<◌, length, map, replicate, slice_index_or};
 ghost use Rattle.std.specs.Prelude.{[], IfOk, OnOk};
 ghost use Rattle.std.specs.Fmt.{decimal};
 ghost use Rattle.std.specs.List.{flat_map, range_with_len};
@@ -8,9 +8,19 @@ ghost use Rattle.ssim_calendar.specs.Legend.{aligned, dates_of, entry_lines, hea
 ghost use Rattle.ssim_calendar.specs.Legend.{legend, more_line, most_dates, text_after, texts_of};
 
 use crate::letters::letter_at;
+use ssim_lines::{PrintedAt, push_blanks, push_range, written};
 use ssim_values::Memory;
 use std::alloc::Global;
 use std::io::Write;
+
+/// The texts of each letter, and the width of their numbers of dates.
+#[derive(Clone, Copy)]
+struct Legend<'a, 'b> {
+    alloc: Global,
+    entries: &'a [Vec<Vec<u8>>],
+    cells: &'b [u8],
+    width: usize,
+}
 
 /// Adds the legend of cells: for each letter the number of its dates, aligned right, and its texts,
 /// the second and later ones in lines of their own; then the number of dates of #, if there are
@@ -25,28 +35,26 @@ pub fn push_legend(
         ++ legend (map (λ texts. texts_of texts.items) entries.now) cells.now) }
 {
     let width = decimal_of(alloc, most_dates(cells, entries.len()))?.len();
-    push_entries(alloc, lines, entries, cells, width)?;
+    let legend = Legend {
+        alloc,
+        entries,
+        cells,
+        width,
+    };
+    push_range(lines, &legend, 0, entries.len())?;
     push_more(lines, dates_of(cells, b'#'))
 }
 
-// Adds the texts of each letter.
-fn push_entries(
-    alloc: Global,
-    lines: &mut Vec<u8>,
-    entries: &[Vec<Vec<u8>>],
-    cells: &[u8],
-    width: usize,
-) -> Result<(), Memory>
-    ensures { OnOk result (lines.new.items ≡ lines.old.items ++ flat_map
-        (λ place. entry_lines (head_of cells.now width place)
-        (slice_index_or (map (λ texts. texts_of texts.items) entries.now) place []))
-        (range_with_len 0 (length entries.now))) }
-{
-    for place in 0..entries.len() {
-        let head = head_of(alloc, cells, width, place)?;
-        push_entry(alloc, lines, &head, &entries[place])?;
+impl PrintedAt for Legend<'_, '_> {
+    ghost has = { λ legend place. place < length legend.entries.now };
+
+    ghost text = { λ legend place. entry_lines (head_of legend.cells.now legend.width place)
+        (slice_index_or (map (λ texts. texts_of texts.items) legend.entries.now) place []) };
+
+    fn print_at(&self, place: usize, lines: &mut Vec<u8>) -> Result<(), Memory> {
+        let head = head_of(self.alloc, self.cells, self.width, place)?;
+        push_entry(self.alloc, lines, &head, &self.entries[place])
     }
-    Ok(())
 }
 
 // Adds the texts of a letter: the first after its head, the others below it.
@@ -119,23 +127,12 @@ fn push_aligned(
     Ok(())
 }
 
-fn push_blanks(bytes: &mut Vec<u8>, count: usize) -> Result<(), Memory>
-    ensures { OnOk result (bytes.new.items ≡ bytes.old.items ++ replicate count 32) }
-{
-    for number in 0..count {
-        bytes.push(b' ')?;
-    }
-    Ok(())
-}
-
 fn decimal_of(alloc: Global, number: usize) -> Result<Vec<u8>, Memory>
     ensures { IfOk result (λ text. text.items ≡ decimal number) }
 {
     let mut text = Vec::new(alloc);
-    match write!(text, "{number}") {
-        Ok(()) => Ok(text),
-        Err(_) => Err(Memory),
-    }
+    written(write!(text, "{number}"))?;
+    Ok(text)
 }
 
 // The largest number of dates of the first letters.
@@ -169,8 +166,5 @@ fn push_more(lines: &mut Vec<u8>, dates: usize) -> Result<(), Memory>
     if dates == 0 {
         return Ok(());
     }
-    match writeln!(lines, "# {dates} more") {
-        Ok(()) => Ok(()),
-        Err(_) => Err(Memory),
-    }
+    written(writeln!(lines, "# {dates} more"))
 }

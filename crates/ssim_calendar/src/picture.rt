@@ -1,7 +1,6 @@
 //! The picture of a calendar: a column for each week, a row for each weekday.
 
-ghost use Rattle.std.specs.Prelude.{◌≡◌, ◌≤◌, ◌<◌, ◌+◌, ◌*◌, ◌++◌, length, map, OnOk};
-ghost use Rattle.std.specs.List.{flat_map, range_with_len};
+ghost use Rattle.std.specs.Prelude.{◌≡◌, ◌≤◌, ◌<◌, ◌+◌, ◌-◌, ◌*◌, ◌/◌, ◌++◌, length, OnOk};
 ghost use Rattle.ssim_calendar.specs.Picture.{begins_month, begins_within, block, blocks};
 ghost use Rattle.ssim_calendar.specs.Picture.{digit_above, digits_line, earlier, first_date};
 ghost use Rattle.ssim_calendar.specs.Picture.{is_beside_name, is_named, last_date, later, mark};
@@ -9,6 +8,7 @@ ghost use Rattle.ssim_calendar.specs.Picture.{months_line, name_above, picture, 
 ghost use Rattle.ssim_calendar.specs.Picture.{title_line, trimmed_line, weeks};
 
 use crate::week::{text_above, text_of};
+use ssim_lines::{PrintedAt, push_range};
 use ssim_text::without_end;
 use ssim_values::Memory;
 use std::alloc::Global;
@@ -36,6 +36,40 @@ struct WeekRange {
     ghost small: { end < 5220 },
 }
 
+/// The blocks of the weeks from one up to another.
+#[derive(Clone, Copy)]
+struct Blocks<'a, 'b> {
+    alloc: Global,
+    title: &'a [u8],
+    dates: Dates<'b>,
+    from: usize,
+    end: usize,
+    ghost small: { end < 5220 },
+}
+
+/// A digit of the day above each week.
+#[derive(Clone, Copy)]
+struct Digits {
+    place: usize,
+    ghost within: { place < 7 },
+}
+
+/// The rows of a block, from Monday on.
+#[derive(Clone, Copy)]
+struct WeekdayRows<'a> {
+    alloc: Global,
+    dates: Dates<'a>,
+    weeks: WeekRange,
+}
+
+/// The cells of a weekday; a blank before the first date and after the last.
+#[derive(Clone, Copy)]
+struct WeekdayCells<'a> {
+    dates: Dates<'a>,
+    weekday: usize,
+    ghost within: { weekday < 7 },
+}
+
 /// Adds the picture of cells, each of which is a letter, or a full stop for a day without one. Each
 /// block begins with the title and its first and last day. Nothing is added if no day has a letter.
 pub fn push_picture(
@@ -53,13 +87,18 @@ pub fn push_picture(
     }
     let last = last_date(cells);
     let dates = Dates { cells, first, last };
-    push_blocks(
+    let blocks = Blocks {
         alloc,
-        lines,
         title,
         dates,
-        (first + 5) / 7,
-        (last + 5) / 7 + 1,
+        from: (first + 5) / 7,
+        end: (last + 5) / 7 + 1,
+    };
+    push_range(
+        lines,
+        &blocks,
+        0,
+        (blocks.end.saturating_sub(blocks.from) + 52) / WEEKS,
     )
 }
 
@@ -91,29 +130,24 @@ fn last_date(cells: &[u8]) -> usize
     0
 }
 
-// Adds the blocks of the weeks from `from` up to `end`.
-fn push_blocks(
-    alloc: Global,
-    lines: &mut Vec<u8>,
-    title: &[u8],
-    dates: Dates<'_>,
-    from: usize,
-    end: usize,
-) -> Result<(), Memory>
-    requires { end < 5220 }
-    ensures { OnOk result (lines.new.items ≡ lines.old.items ++ blocks title.now
-        dates.entry.cells.now dates.entry.first dates.entry.last from end) }
-{
-    for number in 0..(end.saturating_sub(from) + 52) / WEEKS {
-        let start = from + WEEKS * number;
-        let next = earlier(end, start + WEEKS);
-        let weeks = WeekRange {
-            from: start,
-            end: next,
-        };
-        push_block(alloc, lines, title, dates, weeks)?;
+impl PrintedAt for Blocks<'_, '_> {
+    ghost has = { λ blocks number. number < (blocks.end - blocks.from + 52) / 53 };
+
+    ghost text = { λ blocks number. block blocks.title.now
+        blocks.dates.cells.now blocks.dates.first blocks.dates.last (blocks.from + 53 * number)
+        (earlier blocks.end (blocks.from + 53 * number + 53)) };
+
+    fn print_at(&self, number: usize, lines: &mut Vec<u8>) -> Result<(), Memory> {
+        let from = self.from + WEEKS * number;
+        let end = earlier(self.end, from + WEEKS);
+        push_block(
+            self.alloc,
+            lines,
+            self.title,
+            self.dates,
+            WeekRange { from, end },
+        )
     }
-    Ok(())
 }
 
 // Adds a block.
@@ -131,7 +165,12 @@ fn push_block(
     push_months(alloc, lines, weeks)?;
     push_digits(lines, weeks, 0)?;
     push_digits(lines, weeks, 1)?;
-    push_rows(alloc, lines, dates, weeks)?;
+    let rows = WeekdayRows {
+        alloc,
+        dates,
+        weeks,
+    };
+    push_range(lines, &rows, 0, 7)?;
     lines.push(b'\n')?;
     Ok(())
 }
@@ -175,34 +214,24 @@ fn push_months(alloc: Global, lines: &mut Vec<u8>, weeks: WeekRange) -> Result<(
         (lines.new.items ≡ lines.old.items ++ months_line weeks.from weeks.end) }
 {
     let mut row = Vec::from_slice(alloc, b"  ")?;
-    push_names(&mut row, weeks)?;
+    push_range(&mut row, &weeks, weeks.from, weeks.end)?;
     push_trimmed(lines, &row)
 }
 
-// Adds what is above each week.
-fn push_names(row: &mut Vec<u8>, shown: WeekRange) -> Result<(), Memory>
-    ensures { OnOk result (row.new.items ≡ row.old.items
-        ++ flat_map (name_above shown.from shown.end) (weeks shown.from shown.end)) }
-{
-    for week in shown.from..shown.end {
-        push_name(row, shown, week)?;
-    }
-    Ok(())
-}
+impl PrintedAt for WeekRange {
+    ghost has = { λ weeks week. (weeks.from ≤ week) × (week < weeks.end) };
 
-// Adds what is above a week: the name of its month, nothing beside a name, or a blank.
-fn push_name(row: &mut Vec<u8>, weeks: WeekRange, week: usize) -> Result<(), Memory>
-    requires from { weeks.from ≤ week }
-    requires to { week < weeks.end }
-    ensures { OnOk result
-        (row.new.items ≡ row.old.items ++ name_above weeks.from weeks.end week) }
-{
-    if is_named(weeks, week) {
-        row.extend_from_slice(&text_above(week)[2..5])?;
-    } else if !is_beside_name(weeks, week) {
-        row.push(b' ')?;
+    ghost text = { λ weeks week. name_above weeks.from weeks.end week };
+
+    // Adds what is above a week: the name of its month, nothing beside a name, or a blank.
+    fn print_at(&self, week: usize, lines: &mut Vec<u8>) -> Result<(), Memory> {
+        if is_named(*self, week) {
+            lines.extend_from_slice(&text_above(week)[2..5])?;
+        } else if !is_beside_name(*self, week) {
+            lines.push(b' ')?;
+        }
+        Ok(())
     }
-    Ok(())
 }
 
 // Whether the name of the month is above the week.
@@ -251,87 +280,55 @@ fn push_digits(lines: &mut Vec<u8>, weeks: WeekRange, place: usize) -> Result<()
         (lines.new.items ≡ lines.old.items ++ digits_line weeks.from weeks.end place) }
 {
     lines.extend_from_slice(b"  ")?;
-    push_each_digit(lines, weeks, place)?;
+    push_range(lines, &Digits { place }, weeks.from, weeks.end)?;
     lines.push(b'\n')?;
     Ok(())
 }
 
-fn push_each_digit(lines: &mut Vec<u8>, shown: WeekRange, place: usize) -> Result<(), Memory>
-    requires { place < 7 }
-    ensures { OnOk result (lines.new.items
-        ≡ lines.old.items ++ map (digit_above place) (weeks shown.from shown.end)) }
-{
-    for week in shown.from..shown.end {
-        lines.push(text_above(week)[place])?;
+impl PrintedAt for Digits {
+    ghost has = { λ digits week. week < 5219 };
+
+    ghost text = { λ digits week. digit_above digits.place week };
+
+    fn print_at(&self, week: usize, lines: &mut Vec<u8>) -> Result<(), Memory> {
+        lines.push(text_above(week)[self.place])?;
+        Ok(())
     }
-    Ok(())
 }
 
-// Adds the row of each weekday, from Monday on.
-fn push_rows(
-    alloc: Global,
-    lines: &mut Vec<u8>,
-    dates: Dates<'_>,
-    weeks: WeekRange,
-) -> Result<(), Memory>
-    ensures { OnOk result (lines.new.items ≡ lines.old.items ++ flat_map (row_line
-        dates.entry.cells.now dates.entry.first dates.entry.last weeks.from weeks.end)
-        (range_with_len 0 7)) }
-{
-    for weekday in 0..7 {
-        push_row(alloc, lines, dates, weeks, weekday)?;
+impl PrintedAt for WeekdayRows<'_> {
+    ghost has = { λ rows weekday. weekday < 7 };
+
+    ghost text = { λ rows weekday. row_line rows.dates.cells.now
+        rows.dates.first rows.dates.last rows.weeks.from rows.weeks.end weekday };
+
+    fn print_at(&self, weekday: usize, lines: &mut Vec<u8>) -> Result<(), Memory> {
+        let mut row = Vec::new(self.alloc);
+        row.push(b'1' + weekday as u8)?;
+        row.push(b' ')?;
+        let marks = WeekdayCells {
+            dates: self.dates,
+            weekday,
+        };
+        push_range(&mut row, &marks, self.weeks.from, self.weeks.end)?;
+        push_trimmed(lines, &row)
     }
-    Ok(())
 }
 
-// Adds the row of a weekday.
-fn push_row(
-    alloc: Global,
-    lines: &mut Vec<u8>,
-    dates: Dates<'_>,
-    weeks: WeekRange,
-    weekday: usize,
-) -> Result<(), Memory>
-    requires { weekday < 7 }
-    ensures { OnOk result (lines.new.items ≡ lines.old.items ++ row_line
-        dates.entry.cells.now dates.entry.first dates.entry.last weeks.from weeks.end weekday) }
-{
-    let mut row = Vec::new(alloc);
-    row.push(b'1' + weekday as u8)?;
-    row.push(b' ')?;
-    push_marks(&mut row, dates, weeks, weekday)?;
-    push_trimmed(lines, &row)
-}
+impl PrintedAt for WeekdayCells<'_> {
+    ghost has = { λ marks week. week < 5220 };
 
-// Adds the cell of a weekday in each week.
-fn push_marks(
-    row: &mut Vec<u8>,
-    dates: Dates<'_>,
-    shown: WeekRange,
-    weekday: usize,
-) -> Result<(), Memory>
-    requires { weekday < 7 }
-    ensures { OnOk result (row.new.items ≡ row.old.items ++ map
-        (mark dates.entry.cells.now dates.entry.first dates.entry.last weekday)
-        (weeks shown.from shown.end)) }
-{
-    for week in shown.from..shown.end {
-        row.push(mark(dates, weekday, week))?;
-    }
-    Ok(())
-}
+    ghost text = { λ marks week. mark marks.dates.cells.now
+        marks.dates.first marks.dates.last marks.weekday week };
 
-// The cell of a weekday in a week; a blank before the first date and after the last.
-fn mark(dates: Dates<'_>, weekday: usize, week: usize) -> u8
-    requires week { week < 5220 }
-    requires weekday { weekday < 7 }
-    ensures { result ≡ mark dates.entry.cells.now dates.entry.first dates.entry.last weekday week }
-{
-    let day = 7 * week + weekday;
-    if dates.first + 5 <= day && day <= dates.last + 5 {
-        dates.cells[day - 5]
-    } else {
-        b' '
+    fn print_at(&self, week: usize, lines: &mut Vec<u8>) -> Result<(), Memory> {
+        let day = 7 * week + self.weekday;
+        if self.dates.first + 5 <= day && day <= self.dates.last + 5 {
+            lines.push(self.dates.cells[day - 5])?;
+        } else {
+            lines.push(b' ')?;
+        }
+        Ok(())
     }
 }
 

@@ -1,6 +1,6 @@
 //! The differences of two timetables as lines.
 
-ghost use Rattle.std.specs.Prelude.{◌≡◌, ◌++◌, IfOk, OnOk};
+ghost use Rattle.std.specs.Prelude.{◌≡◌, ◌<◌, ◌++◌, IfOk, OnOk};
 ghost use Rattle.std.specs.List.{flat_map};
 ghost use Rattle.std.specs.Option.{option_map};
 ghost use Rattle.ssim_values.specs.Flight.{FlightNumber};
@@ -16,11 +16,34 @@ use crate::dates::date_count;
 use crate::difference::Difference;
 use crate::flight_difference::FlightDifference;
 use crate::timetable_difference::differences;
+use ssim_lines::{Printed, PrintedAt, push_each, push_range, written};
 use ssim_listing::{is_like, mark_of, name_of, push_leg_text, push_period};
 use ssim_schedule::{FlightPieces, PlacedLeg};
 use ssim_values::{Airline, Memory, Period};
 use std::alloc::Global;
 use std::io::Write;
+
+/// The flights of an airline that differ.
+#[derive(Clone, Copy)]
+struct Flights {
+    alloc: Global,
+    airline: Airline,
+}
+
+/// The name of a flight that differs.
+#[derive(Clone, Copy)]
+struct ChangedFlight<'a> {
+    alloc: Global,
+    name: &'a [u8],
+}
+
+/// Old and new legs, which are printed by sequence.
+#[derive(Clone, Copy)]
+struct LegPairs<'a, 'b> {
+    alloc: Global,
+    old: &'a [PlacedLeg],
+    new: &'b [PlacedLeg],
+}
 
 /// The lines of two timetables of an airline: those of the flights that differ, each with the
 /// periods on which it does and the old and new legs of each; and a last line, with the number of
@@ -51,7 +74,7 @@ fn listed(
     ensures { IfOk result (λ lines. lines.items ≡ listed_lines airline flights.now dates) }
 {
     let mut lines = Vec::new(alloc);
-    push_flights(alloc, &mut lines, airline, flights)?;
+    push_each(&mut lines, &Flights { alloc, airline }, flights)?;
     push_last(&mut lines, flights, dates)?;
     Ok(lines)
 }
@@ -65,69 +88,30 @@ fn push_last(lines: &mut Vec<u8>, flights: &[FlightDifference], dates: u64) -> R
         lines.extend_from_slice(b"same\n")?;
         return Ok(());
     }
-    match writeln!(lines, "different flights {count} dates {dates}") {
-        Ok(()) => Ok(()),
-        Err(_) => Err(Memory),
+    written(writeln!(lines, "different flights {count} dates {dates}"))
+}
+
+impl Printed<Flights> for FlightDifference {
+    ghost text = { λ flights flight. flight_lines flights.airline flight };
+
+    fn print(&self, flights: &Flights, lines: &mut Vec<u8>) -> Result<(), Memory> {
+        let name = name_of(flights.airline, self.flight());
+        let named = ChangedFlight {
+            alloc: flights.alloc,
+            name: name.as_slice(),
+        };
+        push_each(lines, &named, self.pieces())
     }
 }
 
-// Adds the lines of the flights that differ.
-fn push_flights(
-    alloc: Global,
-    lines: &mut Vec<u8>,
-    airline: Airline,
-    flights: &[FlightDifference],
-) -> Result<(), Memory>
-    ensures { OnOk result
-        (lines.new.items ≡ lines.old.items ++ flat_map (flight_lines airline) flights.now) }
-{
-    for flight in flights {
-        push_flight(alloc, lines, airline, flight)?;
+impl Printed<ChangedFlight<'_>> for (Period, Difference) {
+    ghost text = { λ named piece. piece_lines named.name.now piece };
+
+    fn print(&self, named: &ChangedFlight<'_>, lines: &mut Vec<u8>) -> Result<(), Memory> {
+        push_period(lines, named.name, self.0)?;
+        push_difference(named.alloc, lines, &self.1)?;
+        Ok(())
     }
-    Ok(())
-}
-
-// Adds the lines of a flight that differs.
-fn push_flight(
-    alloc: Global,
-    lines: &mut Vec<u8>,
-    airline: Airline,
-    flight: &FlightDifference,
-) -> Result<(), Memory>
-    ensures { OnOk result (lines.new.items ≡ lines.old.items ++ flight_lines airline flight.now) }
-{
-    let name = name_of(airline, flight.flight());
-    push_pieces(alloc, lines, name.as_slice(), flight.pieces())
-}
-
-// Adds the lines of the periods on which a flight with this name differs.
-fn push_pieces(
-    alloc: Global,
-    lines: &mut Vec<u8>,
-    name: &[u8],
-    pieces: &[(Period, Difference)],
-) -> Result<(), Memory>
-    ensures { OnOk result
-        (lines.new.items ≡ lines.old.items ++ flat_map (piece_lines name.now) pieces.now) }
-{
-    for piece in pieces {
-        push_piece(alloc, lines, name, piece)?;
-    }
-    Ok(())
-}
-
-// Adds the lines of a period on which a flight with this name differs.
-fn push_piece(
-    alloc: Global,
-    lines: &mut Vec<u8>,
-    name: &[u8],
-    piece: &(Period, Difference),
-) -> Result<(), Memory>
-    ensures { OnOk result (lines.new.items ≡ lines.old.items ++ piece_lines name.now piece.now) }
-{
-    push_period(lines, name, piece.0)?;
-    push_difference(alloc, lines, &piece.1)?;
-    Ok(())
 }
 
 // Adds the lines of the old and the new itinerary.
@@ -153,7 +137,7 @@ fn push_changed_legs(
     ensures { OnOk result (lines.new.items ≡ lines.old.items ++ changed_legs old.now new.now) }
 {
     push_none(lines, b"- no flight", old)?;
-    push_legs(alloc, lines, old, new)?;
+    push_range(lines, &LegPairs { alloc, old, new }, 1, 100)?;
     push_none(lines, b"+ no flight", new)
 }
 
@@ -168,20 +152,16 @@ fn push_none(lines: &mut Vec<u8>, text: &[u8], legs: &[PlacedLeg]) -> Result<(),
     Ok(())
 }
 
-// Adds the lines of old and new legs, by sequence.
-fn push_legs(
-    alloc: Global,
-    lines: &mut Vec<u8>,
-    old: &[PlacedLeg],
-    new: &[PlacedLeg],
-) -> Result<(), Memory>
-    ensures { OnOk result (lines.new.items
-        ≡ lines.old.items ++ flat_map (sequence_lines old.now new.now) sequences) }
-{
-    for sequence in 1..100 {
-        push_pair(alloc, lines, leg_at(old, sequence), leg_at(new, sequence))?;
+impl PrintedAt for LegPairs<'_, '_> {
+    ghost has = { λ legs sequence. sequence < 100 };
+
+    ghost text = { λ legs sequence. sequence_lines legs.old.now legs.new.now sequence };
+
+    fn print_at(&self, sequence: usize, lines: &mut Vec<u8>) -> Result<(), Memory> {
+        let old = leg_at(self.old, sequence as u8);
+        let new = leg_at(self.new, sequence as u8);
+        push_pair(self.alloc, lines, old, new)
     }
-    Ok(())
 }
 
 // The leg with a sequence.

@@ -1,20 +1,11 @@
 -- Bytes that are added one after another.
-use Rattle.std.proofs.Common.{◌≡◌, ◌∙◌, ℕ, List, [], ◌∷◌, ◌++◌, refl, sym, ap, append_assoc, append-nil, drop, length, length-append, take, ap₂, ◌-◌, arith}
+use Rattle.std.proofs.Common.{◌≡◌, ◌∙◌, ℕ, List, [], ◌∷◌, ◌++◌, refl, ap, append_assoc, drop, length}
+use Rattle.std.proofs.Common.{length-append, take, ap₂, ◌-◌, arith}
 use Rattle.std.proofs.Math.Seq.{take-length}
-use Rattle.std.specs.List.{flat_map}
-use Rattle.std.proofs.lemmas.Grind.{flat_map-append}
 
 -- x, and then y
 pub joined : (a x y : List ℕ) {b c : List ℕ} → b ≡ a ++ x → c ≡ b ++ y → c ≡ a ++ (x ++ y)
 joined a x y e f = f ∙ ap (λ (bs : List ℕ). bs ++ y) e ∙ append_assoc a x y
-
--- the bytes of some values, and then those of one more
-pub one_more : {A : Type 0} (f : A → List ℕ) (a : List ℕ) (xs all : List A) (x : A) {b c : List ℕ} → all ≡ xs ++ x ∷ [] → b ≡ a ++ flat_map f xs → c ≡ b ++ f x → c ≡ a ++ flat_map f all
-one_more f a xs all x is e g =
-    joined a (flat_map f xs) (f x) e g
-    ∙ ap (λ (bs : List ℕ). a ++ (flat_map f xs ++ bs)) (sym (append-nil (f x)))
-    ∙ ap (λ (bs : List ℕ). a ++ bs) (sym (flat_map-append f xs (x ∷ [])))
-    ∙ ap (λ ys. a ++ flat_map f ys) (sym is)
 
 -- x, and then y, z and w together
 pub four : (x y z w : List ℕ) → ((x ++ y) ++ z) ++ w ≡ x ++ ((y ++ z) ++ w)

@@ -5,4 +5,3 @@ pub mod Dating
 pub mod LegDates
 pub mod GroupMaps
 pub mod IsoDates
-pub mod Heads

@@ -9,6 +9,7 @@ ghost use Rattle.ssim_listing.specs.internal.FlightDates.{text_line};
 
 use crate::leg_text::text_of;
 use crate::lines::push_day;
+use ssim_lines::{Printed, push_each};
 use ssim_periods::weekday_of;
 use ssim_schedule::{Itinerary, PlacedLeg};
 use ssim_values::{Day, Memory, Period};
@@ -23,6 +24,12 @@ const DAYS: u16 = 75;
 /// A leg as text, with its period.
 type LegText = (Period, Vec<u8>);
 
+/// The name of a flight.
+#[derive(Clone, Copy)]
+struct FlightName<'a> {
+    bytes: &'a [u8],
+}
+
 /// Adds the lines of the dates of a flight. Each leg is made text once, for all dates of its
 /// period.
 pub(crate) fn push_dates(
@@ -36,7 +43,7 @@ pub(crate) fn push_dates(
 {
     let texts = texts_of(alloc, pieces)?;
     let dates = dates_of(alloc, &texts)?;
-    push_lines(lines, name, &dates)
+    push_each(lines, &FlightName { bytes: name }, &dates)
 }
 
 // The legs of pieces as texts, each with the period of its piece.
@@ -68,27 +75,18 @@ fn add_texts(
     Ok(())
 }
 
-// Adds a line for each date and its text.
-fn push_lines(lines: &mut Vec<u8>, name: &[u8], dates: &[(Day, &Vec<u8>)]) -> Result<(), Memory>
-    ensures { OnOk result (lines.new.items ≡ lines.old.items
-        ++ flat_map (λ date. text_line name.now date.0 date.1.now.items) dates.now) }
-{
-    for date in dates {
-        push_line(lines, name, date.0, date.1.as_slice())?;
-    }
-    Ok(())
-}
+impl Printed<FlightName<'_>> for (Day, &Vec<u8>) {
+    ghost text = { λ name date. text_line name.bytes.now date.0 date.1.now.items };
 
-// Adds the flight, the date and a leg.
-fn push_line(lines: &mut Vec<u8>, name: &[u8], day: Day, leg: &[u8]) -> Result<(), Memory>
-    ensures { OnOk result (lines.new.items ≡ lines.old.items ++ text_line name.now day leg.now) }
-{
-    lines.extend_from_slice(name)?;
-    push_day(lines, day)?;
-    lines.push(b' ')?;
-    lines.extend_from_slice(leg)?;
-    lines.push(b'\n')?;
-    Ok(())
+    // Adds the flight, the date and a leg.
+    fn print(&self, name: &FlightName<'_>, lines: &mut Vec<u8>) -> Result<(), Memory> {
+        lines.extend_from_slice(name.bytes)?;
+        push_day(lines, self.0)?;
+        lines.push(b' ')?;
+        lines.extend_from_slice(self.1)?;
+        lines.push(b'\n')?;
+        Ok(())
+    }
 }
 
 /// The dates of pieces in order, each with the value of the piece that holds it. The calendar is

@@ -17,9 +17,25 @@ use crate::groups::{Groups, are_mixed, groups_of};
 use crate::leg_text::{push_leg_text, push_shown};
 use crate::marks::mark_of;
 use arrayvec::ArrayVec;
+use ssim_lines::{Printed, push_each};
 use ssim_schedule::{FlightPieces, Itinerary, PlacedLeg};
 use ssim_values::{Airline, Day, Designator, Flight, Memory, Period};
 use std::alloc::Global;
+
+/// How the flights of an airline are listed.
+#[derive(Clone, Copy)]
+pub(crate) struct Layout {
+    pub alloc: Global,
+    pub airline: Airline,
+    pub division: Division,
+}
+
+/// The name of a flight, and the groups of its legs, by which they are marked.
+#[derive(Drop)]
+struct Marks<'a> {
+    name: &'a [u8],
+    groups: Groups<'a>,
+}
 
 /// The flights of an airline, each with its periods, and the legs of each period. A leg is marked
 /// if one of all legs of the flight differs from it, but has the same line.
@@ -50,17 +66,29 @@ fn lines_of(
     ensures { IfOk result (λ lines. lines.items ≡ divided_listing division airline flights.now) }
 {
     let mut lines = Vec::new(alloc);
-    for flight in flights {
-        let name = name_of(airline, flight.flight());
-        push_flight(
-            alloc,
-            &mut lines,
-            name.as_slice(),
-            flight.pieces(),
-            division,
-        )?;
-    }
+    let layout = Layout {
+        alloc,
+        airline,
+        division,
+    };
+    push_each(&mut lines, &layout, flights)?;
     Ok(lines)
+}
+
+impl Printed<Layout> for FlightPieces {
+    ghost text = { λ layout flight.
+        divided_lines layout.division (flight_name layout.airline flight.0) flight.1 };
+
+    fn print(&self, layout: &Layout, lines: &mut Vec<u8>) -> Result<(), Memory> {
+        let name = name_of(layout.airline, self.flight());
+        push_flight(
+            layout.alloc,
+            lines,
+            name.as_slice(),
+            self.pieces(),
+            layout.division,
+        )
+    }
 }
 
 /// The designator of a flight of the airline.
@@ -71,11 +99,11 @@ pub fn name_of(airline: Airline, flight: Flight) -> ArrayVec<u8, 8>
 }
 
 // Adds the lines of a flight with this name.
-fn push_flight(
+fn push_flight<'a>(
     alloc: Global,
     lines: &mut Vec<u8>,
-    name: &[u8],
-    pieces: &[(Period, Itinerary)],
+    name: &'a [u8],
+    pieces: &'a [(Period, Itinerary)],
     division: Division,
 ) -> Result<(), Memory>
     ensures { OnOk result
@@ -88,11 +116,11 @@ fn push_flight(
 }
 
 // Adds the lines of the pieces or of the dates of a flight.
-fn push_parts(
+fn push_parts<'a>(
     alloc: Global,
     lines: &mut Vec<u8>,
-    name: &[u8],
-    pieces: &[(Period, Itinerary)],
+    name: &'a [u8],
+    pieces: &'a [(Period, Itinerary)],
     division: Division,
 ) -> Result<(), Memory>
     ensures { OnOk result
@@ -114,50 +142,28 @@ fn push_no_flight(lines: &mut Vec<u8>, name: &[u8]) -> Result<(), Memory>
 }
 
 // Adds the lines of the pieces of a flight.
-fn push_pieces(
+fn push_pieces<'a>(
     alloc: Global,
     lines: &mut Vec<u8>,
-    name: &[u8],
-    pieces: &[(Period, Itinerary)],
+    name: &'a [u8],
+    pieces: &'a [(Period, Itinerary)],
 ) -> Result<(), Memory>
     ensures { OnOk result (lines.new.items
         ≡ lines.old.items ++ flat_map (piece_lines name.now (legs_of pieces.now)) pieces.now) }
 {
     let groups = groups_of(alloc, pieces)?;
-    push_each(lines, name, &groups, pieces)
+    push_each(lines, &Marks { name, groups }, pieces)
 }
 
-// Adds the lines of pieces, whose legs are marked by their groups.
-fn push_each(
-    lines: &mut Vec<u8>,
-    name: &[u8],
-    groups: &Groups<'_>,
-    pieces: &[(Period, Itinerary)],
-) -> Result<(), Memory>
-    ensures { OnOk result (lines.new.items ≡ lines.old.items
-        ++ flat_map (grouped_lines name.now (λ text. is_mixed (group_in groups.now text)))
-        pieces.now) }
-{
-    for piece in pieces {
-        push_piece(lines, name, groups, piece.0, piece.1.legs())?;
+impl Printed<Marks<'_>> for (Period, Itinerary) {
+    ghost text = { λ marks piece. grouped_lines marks.name.now
+        (λ text. is_mixed (group_in marks.groups text)) piece };
+
+    // Adds the lines of a piece.
+    fn print(&self, marks: &Marks<'_>, lines: &mut Vec<u8>) -> Result<(), Memory> {
+        push_period(lines, marks.name, self.0)?;
+        push_each(lines, marks, self.1.legs())
     }
-    Ok(())
-}
-
-// Adds the lines of a piece.
-fn push_piece(
-    lines: &mut Vec<u8>,
-    name: &[u8],
-    groups: &Groups<'_>,
-    period: Period,
-    legs: &[PlacedLeg],
-) -> Result<(), Memory>
-    ensures { OnOk result (lines.new.items ≡ lines.old.items
-        ++ grouped_lines name.now (λ text. is_mixed (group_in groups.now text))
-        (period, legs.now)) }
-{
-    push_period(lines, name, period)?;
-    push_legs(lines, groups, legs)
 }
 
 /// Adds the line of a period of a flight with this name: its first and last day, and the days of
@@ -183,27 +189,18 @@ pub(crate) fn push_day(lines: &mut Vec<u8>, day: Day) -> Result<(), Memory>
     Ok(())
 }
 
-// Adds a line for each leg.
-fn push_legs(lines: &mut Vec<u8>, groups: &Groups<'_>, legs: &[PlacedLeg]) -> Result<(), Memory>
-    ensures { OnOk result (lines.new.items ≡ lines.old.items
-        ++ flat_map (grouped_line (λ text. is_mixed (group_in groups.now text))) legs.now) }
-{
-    for leg in legs {
-        push_leg(lines, groups, leg)?;
-    }
-    Ok(())
-}
+impl Printed<Marks<'_>> for PlacedLeg {
+    ghost text = { λ marks leg.
+        grouped_line (λ text. is_mixed (group_in marks.groups text)) leg };
 
-// Adds the line of a leg, two blanks before it, and its mark.
-fn push_leg(lines: &mut Vec<u8>, groups: &Groups<'_>, leg: &PlacedLeg) -> Result<(), Memory>
-    ensures { OnOk result (lines.new.items ≡ lines.old.items
-        ++ grouped_line (λ text. is_mixed (group_in groups.now text)) leg.now) }
-{
-    lines.extend_from_slice(b"  ")?;
-    let begin = lines.len();
-    push_leg_text(lines, leg)?;
-    let marked = are_mixed(groups, &lines[begin..]);
-    lines.extend_from_slice(mark_of(marked))?;
-    lines.push(b'\n')?;
-    Ok(())
+    // Adds the line of a leg, two blanks before it, and its mark.
+    fn print(&self, marks: &Marks<'_>, lines: &mut Vec<u8>) -> Result<(), Memory> {
+        lines.extend_from_slice(b"  ")?;
+        let begin = lines.len();
+        push_leg_text(lines, self)?;
+        let marked = are_mixed(&marks.groups, &lines[begin..]);
+        lines.extend_from_slice(mark_of(marked))?;
+        lines.push(b'\n')?;
+        Ok(())
+    }
 }

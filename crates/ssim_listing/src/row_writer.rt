@@ -1,6 +1,7 @@
 //! Rows of CSV, as the crate `csv` writes them into memory.
 
 ghost use Rattle.std.specs.Prelude.{◌≡◌, ◌++◌, ℕ, [], List, IfOk, OnOk, map};
+ghost use Rattle.std.specs.List.{flat_map};
 ghost use Rattle.csv.specs.Records.{fields_of};
 ghost use Rattle.ssim_listing.specs.Rows.{row};
 ghost use Rattle.ssim_listing.specs.internal.Written.{HasWritten};
@@ -44,6 +45,32 @@ fn row_of(alloc: Global, fields: &[&[u8]]) -> Result<ByteRecord, Memory>
         row.push_field(field)?;
     }
     Ok(row)
+}
+
+/// A value that is written as rows under a context.
+pub(crate) trait Rowed<C> {
+    /// Its rows under a context.
+    ghost text: { C → Self → List ℕ };
+
+    /// Writes its rows.
+    fn put(&self, context: &C, rows: &mut RowWriter) -> Result<(), Memory>
+        ensures { OnOk result ((before : List ℕ) → HasWritten rows.old before
+            → HasWritten rows.new (before ++ text context.now self.now)) };
+}
+
+/// Writes the rows of each value, in order.
+pub(crate) fn put_each<C, T: Rowed<C>>(
+    rows: &mut RowWriter,
+    context: &C,
+    items: &[T],
+) -> Result<(), Memory>
+    ensures { OnOk result ((before : List ℕ) → HasWritten rows.old before
+        → HasWritten rows.new (before ++ flat_map (T.text context.now) items.now)) }
+{
+    for item in items {
+        item.put(context, rows)?;
+    }
+    Ok(())
 }
 
 /// The rows that were written.

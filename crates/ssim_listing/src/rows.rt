@@ -1,8 +1,8 @@
 //! The flights of a timetable as CSV.
 
-ghost use Rattle.std.specs.Prelude.{◌≡◌, ◌++◌, ◌+◌, ℕ, List, IfOk, IsTrue, OnOk, map};
-ghost use Rattle.std.specs.List.{flat_map};
+ghost use Rattle.std.specs.Prelude.{◌≡◌, ◌++◌, ◌+◌, ◌∷◌, [], ℕ, List, IfOk, IsTrue, OnOk};
 ghost use Rattle.ssim_records.specs.Leg.{is_own};
+ghost use Rattle.ssim_listing.specs.Lines.{flight_name};
 ghost use Rattle.ssim_listing.specs.Rows.{csv_listing, date_rows, dated_csv_listing, header};
 ghost use Rattle.ssim_listing.specs.Rows.{leg_row, piece_rows, row, time_field};
 ghost use Rattle.ssim_listing.specs.internal.Divisions.{divided_csv_listing, divided_rows};
@@ -11,8 +11,8 @@ ghost use Rattle.ssim_listing.specs.internal.Written.{HasWritten};
 use crate::dates::dates_of;
 use crate::division::Division;
 use crate::iso::{iso_date, iso_time};
-use crate::lines::name_of;
-use crate::row_writer::{RowWriter, into_bytes, new_writer, put_row};
+use crate::lines::{Layout, name_of};
+use crate::row_writer::{RowWriter, Rowed, into_bytes, new_writer, put_each, put_row};
 use ssim_records::leg_fields::{
     AIRCRAFT_ARRIVAL, AIRCRAFT_DEPARTURE, AIRCRAFT_TYPE, ARRIVAL_STATION, ARRIVAL_TERMINAL,
     ARRIVAL_VARIATION, BOOKING_DESIGNATORS, CONFIGURATION, DATE_VARIATIONS, DEPARTURE_STATION,
@@ -48,6 +48,23 @@ const HEADER: [&[u8]; 21] = [
     b"arrival_terminal",
 ];
 
+/// A flight with this name.
+#[derive(Clone, Copy)]
+struct FlightRows<'a> {
+    alloc: Global,
+    bytes: &'a [u8],
+}
+
+/// The first fields of each leg, which are those of its flight and its dates.
+#[derive(Clone, Copy)]
+struct Head<'a> {
+    alloc: Global,
+    name: &'a [u8],
+    first: &'a [u8],
+    last: &'a [u8],
+    days: &'a [u8],
+}
+
 /// The flights of an airline as CSV: the names of the columns, and a row for each piece and leg.
 pub fn csv_listing(
     alloc: Global,
@@ -81,10 +98,12 @@ fn rows_of(
         (λ rows. rows.items ≡ divided_csv_listing division airline flights.now) }
 {
     let mut rows = headed_writer(alloc)?;
-    for flight in flights {
-        let name = name_of(airline, flight.flight());
-        put_flight(alloc, &mut rows, name.as_slice(), flight.pieces(), division)?;
-    }
+    let layout = Layout {
+        alloc,
+        airline,
+        division,
+    };
+    put_each(&mut rows, &layout, flights)?;
     into_bytes(rows)
 }
 
@@ -95,6 +114,17 @@ fn headed_writer(alloc: Global) -> Result<RowWriter, Memory>
     let mut rows = new_writer(alloc);
     put_row(alloc, &mut rows, &HEADER)?;
     Ok(rows)
+}
+
+impl Rowed<Layout> for FlightPieces {
+    ghost text = { λ layout flight.
+        divided_rows layout.division (flight_name layout.airline flight.0) flight.1 };
+
+    fn put(&self, layout: &Layout, rows: &mut RowWriter) -> Result<(), Memory> {
+        let alloc = layout.alloc;
+        let name = name_of(layout.airline, self.flight());
+        put_flight(alloc, rows, name.as_slice(), self.pieces(), layout.division)
+    }
 }
 
 // Writes the rows of a flight with this name.
@@ -109,140 +139,89 @@ fn put_flight(
         → HasWritten rows.new (before ++ divided_rows division name.now pieces.now)) }
 {
     match division {
-        Division::Periods => put_pieces(alloc, rows, name, pieces),
+        Division::Periods => put_each(rows, &FlightRows { alloc, bytes: name }, pieces),
         Division::Dates => {
             let dates = dates_of(alloc, pieces)?;
-            put_dates(alloc, rows, name, &dates)
+            put_each(rows, &FlightRows { alloc, bytes: name }, &dates)
         }
     }
 }
 
-// Writes the rows of the pieces of a flight.
-fn put_pieces(
-    alloc: Global,
-    rows: &mut RowWriter,
-    name: &[u8],
-    pieces: &[(Period, Itinerary)],
-) -> Result<(), Memory>
-    ensures { OnOk result ((before : List ℕ) → HasWritten rows.old before
-        → HasWritten rows.new (before ++ flat_map (piece_rows name.now) pieces.now)) }
-{
-    for piece in pieces {
-        put_piece(alloc, rows, name, piece.0, piece.1.legs())?;
+impl Rowed<FlightRows<'_>> for (Period, Itinerary) {
+    ghost text = { λ name piece. piece_rows name.bytes.now piece };
+
+    fn put(&self, name: &FlightRows<'_>, rows: &mut RowWriter) -> Result<(), Memory> {
+        let first = iso_date(self.0.first());
+        let last = iso_date(self.0.last());
+        let days = self.0.mask().digits();
+        let head = Head {
+            alloc: name.alloc,
+            name: name.bytes,
+            first: &first,
+            last: &last,
+            days: days.as_slice(),
+        };
+        put_each(rows, &head, self.1.legs())
     }
-    Ok(())
 }
 
-// Writes the rows of a piece of a flight.
-fn put_piece(
-    alloc: Global,
-    rows: &mut RowWriter,
-    name: &[u8],
-    period: Period,
-    legs: &[PlacedLeg],
-) -> Result<(), Memory>
-    ensures { OnOk result ((before : List ℕ) → HasWritten rows.old before
-        → HasWritten rows.new (before ++ piece_rows name.now (period, legs.now))) }
-{
-    let first = iso_date(period.first());
-    let last = iso_date(period.last());
-    let days = period.mask().digits();
-    put_legs(alloc, rows, &[name, &first, &last, days.as_slice()], legs)
-}
+impl Rowed<FlightRows<'_>> for (Day, &Itinerary) {
+    ghost text = { λ name date. date_rows name.bytes.now (date.0, date.1.now) };
 
-// Writes the rows of the dates of a flight.
-fn put_dates(
-    alloc: Global,
-    rows: &mut RowWriter,
-    name: &[u8],
-    dates: &[(Day, &Itinerary)],
-) -> Result<(), Memory>
-    ensures { OnOk result ((before : List ℕ) → HasWritten rows.old before → HasWritten rows.new
-        (before ++ flat_map (λ date. date_rows name.now (date.0, date.1.now)) dates.now)) }
-{
-    for date in dates {
-        put_date(alloc, rows, name, date.0, date.1.legs())?;
+    fn put(&self, name: &FlightRows<'_>, rows: &mut RowWriter) -> Result<(), Memory> {
+        let date = iso_date(self.0);
+        let weekday = [b'0' + self.0.weekday()];
+        let head = Head {
+            alloc: name.alloc,
+            name: name.bytes,
+            first: &date,
+            last: &date,
+            days: &weekday,
+        };
+        put_each(rows, &head, self.1.legs())
     }
-    Ok(())
 }
 
-// Writes the rows of a date of a flight.
-fn put_date(
-    alloc: Global,
-    rows: &mut RowWriter,
-    name: &[u8],
-    day: Day,
-    legs: &[PlacedLeg],
-) -> Result<(), Memory>
-    ensures { OnOk result ((before : List ℕ) → HasWritten rows.old before
-        → HasWritten rows.new (before ++ date_rows name.now (day, legs.now))) }
-{
-    let date = iso_date(day);
-    let weekday = [b'0' + day.weekday()];
-    put_legs(alloc, rows, &[name, &date, &date, &weekday], legs)
-}
+impl Rowed<Head<'_>> for PlacedLeg {
+    ghost text = { λ head leg.
+        leg_row (head.name.now ∷ head.first.now ∷ head.last.now ∷ head.days.now ∷ []) leg };
 
-// Writes a row for each leg, with these fields of its flight and its dates.
-fn put_legs(
-    alloc: Global,
-    rows: &mut RowWriter,
-    head: &[&[u8]; 4],
-    legs: &[PlacedLeg],
-) -> Result<(), Memory>
-    ensures { OnOk result ((before : List ℕ) → HasWritten rows.old before → HasWritten rows.new
-        (before ++ flat_map (leg_row (map (λ f. f.now) head.now)) legs.now)) }
-{
-    for leg in legs {
-        put_leg(alloc, rows, head, leg)?;
+    fn put(&self, head: &Head<'_>, rows: &mut RowWriter) -> Result<(), Memory> {
+        let sequence = write_two_digits(self.sequence());
+        let columns = self.columns();
+        let passenger_departure = time_of(&columns, PASSENGER_DEPARTURE);
+        let departure = time_of(&columns, AIRCRAFT_DEPARTURE);
+        let arrival = time_of(&columns, AIRCRAFT_ARRIVAL);
+        let passenger_arrival = time_of(&columns, PASSENGER_ARRIVAL);
+        let (departs, arrives) = columns.text(DATE_VARIATIONS).split_at(1);
+        put_row(
+            head.alloc,
+            rows,
+            &[
+                head.name,
+                head.first,
+                head.last,
+                head.days,
+                &sequence,
+                columns.text(DEPARTURE_STATION),
+                &passenger_departure,
+                &departure,
+                columns.text(DEPARTURE_VARIATION),
+                columns.text(ARRIVAL_STATION),
+                &arrival,
+                &passenger_arrival,
+                columns.text(ARRIVAL_VARIATION),
+                departs,
+                arrives,
+                columns.text(SERVICE_TYPE),
+                columns.text(AIRCRAFT_TYPE),
+                columns.text(BOOKING_DESIGNATORS),
+                columns.text(CONFIGURATION),
+                columns.text(DEPARTURE_TERMINAL),
+                columns.text(ARRIVAL_TERMINAL),
+            ],
+        )
     }
-    Ok(())
-}
-
-// Writes the row of a leg.
-fn put_leg(
-    alloc: Global,
-    rows: &mut RowWriter,
-    head: &[&[u8]; 4],
-    leg: &PlacedLeg,
-) -> Result<(), Memory>
-    ensures { OnOk result ((before : List ℕ) → HasWritten rows.old before
-        → HasWritten rows.new (before ++ leg_row (map (λ f. f.now) head.now) leg.now)) }
-{
-    let [name, first, last, days] = *head;
-    let sequence = write_two_digits(leg.sequence());
-    let columns = leg.columns();
-    let passenger_departure = time_of(&columns, PASSENGER_DEPARTURE);
-    let departure = time_of(&columns, AIRCRAFT_DEPARTURE);
-    let arrival = time_of(&columns, AIRCRAFT_ARRIVAL);
-    let passenger_arrival = time_of(&columns, PASSENGER_ARRIVAL);
-    let (departs, arrives) = columns.text(DATE_VARIATIONS).split_at(1);
-    put_row(
-        alloc,
-        rows,
-        &[
-            name,
-            first,
-            last,
-            days,
-            &sequence,
-            columns.text(DEPARTURE_STATION),
-            &passenger_departure,
-            &departure,
-            columns.text(DEPARTURE_VARIATION),
-            columns.text(ARRIVAL_STATION),
-            &arrival,
-            &passenger_arrival,
-            columns.text(ARRIVAL_VARIATION),
-            departs,
-            arrives,
-            columns.text(SERVICE_TYPE),
-            columns.text(AIRCRAFT_TYPE),
-            columns.text(BOOKING_DESIGNATORS),
-            columns.text(CONFIGURATION),
-            columns.text(DEPARTURE_TERMINAL),
-            columns.text(ARRIVAL_TERMINAL),
-        ],
-    )
 }
 
 // A time of a leg, as in 17:30.

@@ -4,15 +4,22 @@ ghost use Rattle.std.specs.Prelude.{◌≡◌, ◌++◌, IfOk, OnOk, length};
 ghost use Rattle.ssim_values.specs.Flight.{FlightNumber};
 ghost use Rattle.ssim_base.specs.Timetable.{Days};
 ghost use Rattle.ssim_difference.specs.Differences.{differences};
-ghost use Rattle.ssim_outbox.specs.Publication.{AreLines, last_line, text_line, text_lines};
+ghost use Rattle.ssim_outbox.specs.Publication.{AreLines, last_line, text_line};
 
 use ssim_base::StationRow;
 use ssim_difference::{FlightDifference, date_count};
+use ssim_lines::{Printed, push_each, written};
 use ssim_publish::unsaid_lines;
 use ssim_text::{Message, Reference};
 use ssim_values::{Airline, Memory};
 use std::alloc::Global;
 use std::io::Write;
+
+/// The texts of messages, the first of which has this reference.
+#[derive(Clone, Copy)]
+struct TextLines<'a> {
+    reference: &'a Reference,
+}
 
 /// The lines of messages, and of the dates that they leave unsaid. The first message has this
 /// reference, and `subs` is the number of the sub-messages of all.
@@ -30,7 +37,7 @@ pub(crate) fn publication_lines(
         AreLines airline reference.now messages.now subs after new lines.items) }
 {
     let mut lines = Vec::new(alloc);
-    push_texts(&mut lines, reference, messages)?;
+    push_each(&mut lines, &TextLines { reference }, messages)?;
     let unsaid_text = unsaid_lines(alloc, airline, rows, unsaid)?;
     lines.extend_from_slice(&unsaid_text)?;
     let dates = date_count(alloc, unsaid)?;
@@ -38,37 +45,20 @@ pub(crate) fn publication_lines(
     Ok(lines)
 }
 
-// Adds the lines of messages.
-fn push_texts(
-    lines: &mut Vec<u8>,
-    reference: &Reference,
-    messages: &[Message],
-) -> Result<(), Memory>
-    ensures { OnOk result
-        (lines.new.items ≡ lines.old.items ++ text_lines reference.now messages.now) }
-{
-    for message in messages {
-        push_text(lines, reference, message)?;
-    }
-    Ok(())
-}
+impl Printed<TextLines<'_>> for Message {
+    ghost text = { λ texts message. text_line texts.reference.now message };
 
-// Adds the line of a message.
-fn push_text(lines: &mut Vec<u8>, reference: &Reference, message: &Message) -> Result<(), Memory>
-    ensures { OnOk result
-        (lines.new.items ≡ lines.old.items ++ text_line reference.now message.now) }
-{
-    let own = Reference {
-        date: reference.date,
-        group: message.reference().group,
-        serial: reference.serial,
-        kind: reference.kind,
-        originator: reference.originator,
-    };
-    let count = message.subs().len();
-    match writeln!(lines, "text {own} subs {count}") {
-        Ok(()) => Ok(()),
-        Err(_) => Err(Memory),
+    fn print(&self, texts: &TextLines<'_>, lines: &mut Vec<u8>) -> Result<(), Memory> {
+        let reference = texts.reference;
+        let own = Reference {
+            date: reference.date,
+            group: self.reference().group,
+            serial: reference.serial,
+            kind: reference.kind,
+            originator: reference.originator,
+        };
+        let count = self.subs().len();
+        written(writeln!(lines, "text {own} subs {count}"))
     }
 }
 
@@ -76,8 +66,5 @@ fn push_text(lines: &mut Vec<u8>, reference: &Reference, message: &Message) -> R
 fn push_last(lines: &mut Vec<u8>, texts: usize, subs: usize, dates: u64) -> Result<(), Memory>
     ensures { OnOk result (lines.new.items ≡ lines.old.items ++ last_line texts subs dates) }
 {
-    match writeln!(lines, "texts {texts} subs {subs} unsaid dates {dates}") {
-        Ok(()) => Ok(()),
-        Err(_) => Err(Memory),
-    }
+    written(writeln!(lines, "texts {texts} subs {subs} unsaid dates {dates}"))
 }

@@ -4,7 +4,8 @@ ghost use Rattle.std.specs.Prelude.{◌≡◌, ◌++◌, OnOk, codes};
 ghost use Rattle.ssim_values.specs.Airline.{airline_text};
 ghost use Rattle.ssim_page.specs.Page.{mode_text, title};
 
-use crate::html::push_escaped;
+use crate::html::Html;
+use ssim_lines::{push_each, written};
 use ssim_values::{Airline, Memory, TimeMode};
 use std::io::Write;
 
@@ -23,7 +24,7 @@ pub(crate) fn push_title(page: &mut Vec<u8>, heading: &Heading) -> Result<(), Me
     ensures { OnOk result (page.new.items ≡ page.old.items ++ title heading.now) }
 {
     push_airline(page, heading.airline)?;
-    push_escaped(page, &heading.season)?;
+    push_each(page, &Html, &heading.season)?;
     page.extend_from_slice(b", ")?;
     page.extend_from_slice(mode_text(heading.time_mode))?;
     Ok(())
@@ -33,10 +34,7 @@ pub(crate) fn push_title(page: &mut Vec<u8>, heading: &Heading) -> Result<(), Me
 fn push_airline(page: &mut Vec<u8>, airline: Airline) -> Result<(), Memory>
     ensures { OnOk result (page.new.items ≡ page.old.items ++ (airline_text airline ++ codes " ")) }
 {
-    match write!(page, "{airline} ") {
-        Ok(()) => Ok(()),
-        Err(_) => Err(Memory),
-    }
+    written(write!(page, "{airline} "))
 }
 
 // What the times of a time mode are.

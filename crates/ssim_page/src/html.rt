@@ -2,32 +2,29 @@
 
 ghost use Rattle.std.specs.Fmt.{decimal};
 ghost use Rattle.std.specs.Prelude.{◌≡◌, ◌++◌, ◌∷◌, [], OnOk, codes, if◌then◌else◌, nat_lt};
-ghost use Rattle.ssim_page.specs.Html.{escaped, escaped_byte};
+ghost use Rattle.ssim_page.specs.Html.{escaped_byte};
 
+use ssim_lines::{Printed, written};
 use ssim_values::Memory;
 use std::io::Write;
 
-/// Adds bytes as text.
-pub(crate) fn push_escaped(page: &mut Vec<u8>, bytes: &[u8]) -> Result<(), Memory>
-    ensures { OnOk result (page.new.items ≡ page.old.items ++ escaped bytes.now) }
-{
-    for byte in bytes {
-        push_escaped_byte(page, *byte)?;
-    }
-    Ok(())
-}
+/// Bytes as text of a page.
+#[derive(Clone, Copy)]
+pub(crate) struct Html;
 
-/// Adds a byte as text: by name if it means something else in HTML, by number if it is above 126.
-pub(crate) fn push_escaped_byte(page: &mut Vec<u8>, byte: u8) -> Result<(), Memory>
-    ensures { OnOk result (page.new.items ≡ page.old.items ++ escaped_byte byte) }
-{
-    match byte {
-        b'&' => page.extend_from_slice(b"&amp;")?,
-        b'<' => page.extend_from_slice(b"&lt;")?,
-        b'>' => page.extend_from_slice(b"&gt;")?,
-        _ => push_other(page, byte)?,
+impl Printed<Html> for u8 {
+    ghost text = { λ _. escaped_byte };
+
+    // Adds a byte: by name if it means something else in HTML, by number if it is above 126.
+    fn print(&self, _html: &Html, page: &mut Vec<u8>) -> Result<(), Memory> {
+        match *self {
+            b'&' => page.extend_from_slice(b"&amp;")?,
+            b'<' => page.extend_from_slice(b"&lt;")?,
+            b'>' => page.extend_from_slice(b"&gt;")?,
+            byte => push_other(page, byte)?,
+        }
+        Ok(())
     }
-    Ok(())
 }
 
 // Adds a byte that has no name.
@@ -39,8 +36,5 @@ fn push_other(page: &mut Vec<u8>, byte: u8) -> Result<(), Memory>
         page.push(byte)?;
         return Ok(());
     }
-    match write!(page, "&#{byte};") {
-        Ok(()) => Ok(()),
-        Err(_) => Err(Memory),
-    }
+    written(write!(page, "&#{byte};"))
 }

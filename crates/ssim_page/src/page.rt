@@ -1,7 +1,7 @@
 //! The whole page.
 
 ghost use Rattle.std.specs.Prelude.{◌≡◌, ◌++◌, IfOk, OnOk};
-ghost use Rattle.std.specs.List.{flat_map};
+ghost use Rattle.ssim_listing.specs.Lines.{flight_name};
 ghost use Rattle.ssim_page.specs.Page.{IsPage, document_end, document_title, letter_of, row, rows};
 ghost use Rattle.ssim_page.specs.Page.{section, section_title, sections, shown_title};
 
@@ -9,10 +9,24 @@ use crate::heading::{Heading, push_title};
 use crate::itineraries::{letter_of, lettered};
 use crate::look::{BOX, SCRIPT, STYLE};
 use crate::row::push_row;
+use ssim_lines::{Printed, push_each};
 use ssim_listing::name_of;
 use ssim_schedule::{FlightPieces, Itinerary};
 use ssim_values::{Airline, Memory, Period};
 use std::alloc::Global;
+
+/// The sections of an airline's flights.
+#[derive(Clone, Copy)]
+struct Sections {
+    alloc: Global,
+    airline: Airline,
+}
+
+/// The different itineraries of a flight, by which its rows have their letters.
+#[derive(Clone, Copy)]
+struct Letters<'a> {
+    found: &'a [Itinerary],
+}
 
 /// The page of the flights of an airline: a section for each flight, in order, with a row for each
 /// of its pieces.
@@ -76,11 +90,16 @@ fn push_sections(
 ) -> Result<(), Memory>
     ensures { OnOk result (page.new.items ≡ page.old.items ++ sections airline flights.now) }
 {
-    for flight in flights {
-        let name = name_of(airline, flight.flight());
-        push_section(alloc, page, name.as_slice(), flight.pieces())?;
+    push_each(page, &Sections { alloc, airline }, flights)
+}
+
+impl Printed<Sections> for FlightPieces {
+    ghost text = { λ sections flight. section (flight_name sections.airline flight.0) flight.1 };
+
+    fn print(&self, sections: &Sections, page: &mut Vec<u8>) -> Result<(), Memory> {
+        let name = name_of(sections.airline, self.flight());
+        push_section(sections.alloc, page, name.as_slice(), self.pieces())
     }
-    Ok(())
 }
 
 // Adds the section of a flight with this designator.
@@ -120,20 +139,18 @@ fn push_rows(
     ensures { OnOk result (page.new.items ≡ page.old.items ++ rows pieces.now) }
 {
     let found = lettered(alloc, pieces)?;
-    push_each(page, &found, pieces)
+    push_each(page, &Letters { found: &found }, pieces)
 }
 
-// Adds a row for each piece, with the letter of its itinerary among the different ones.
-fn push_each(
-    page: &mut Vec<u8>,
-    found: &[Itinerary],
-    pieces: &[(Period, Itinerary)],
-) -> Result<(), Memory>
-    ensures { OnOk result (page.new.items ≡ page.old.items
-        ++ flat_map (λ piece. row (letter_of found.now piece.1) piece) pieces.now) }
-{
-    for piece in pieces {
-        push_row(page, letter_of(found, &piece.1), piece.0, piece.1.legs())?;
+impl Printed<Letters<'_>> for (Period, Itinerary) {
+    ghost text = { λ letters piece. row (letter_of letters.found.now piece.1) piece };
+
+    fn print(&self, letters: &Letters<'_>, page: &mut Vec<u8>) -> Result<(), Memory> {
+        push_row(
+            page,
+            letter_of(letters.found, &self.1),
+            self.0,
+            self.1.legs(),
+        )
     }
-    Ok(())
 }

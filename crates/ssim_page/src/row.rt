@@ -4,10 +4,11 @@ ghost use Rattle.std.specs.Prelude.{◌≡◌, ◌++◌, IsTrue, OnOk};
 ghost use Rattle.std.specs.List.{flat_map};
 ghost use Rattle.ssim_records.specs.Leg.{is_own};
 ghost use Rattle.ssim_page.specs.Html.{cell};
-ghost use Rattle.ssim_page.specs.Page.{aircraft, aircraft_line, day_box, end_text, later_text};
-ghost use Rattle.ssim_page.specs.Page.{period_cells, route_line, route_text, routes, row};
+ghost use Rattle.ssim_page.specs.Page.{aircraft_line, day_box, end_text, later_text};
+ghost use Rattle.ssim_page.specs.Page.{period_cells, route_line, route_text, row};
 
-use crate::html::{push_escaped, push_escaped_byte};
+use crate::html::Html;
+use ssim_lines::{Printed, push_each};
 use ssim_records::leg_fields::{
     AIRCRAFT_ARRIVAL, AIRCRAFT_DEPARTURE, AIRCRAFT_TYPE, ARRIVAL_STATION, DATE_VARIATIONS,
     DEPARTURE_STATION,
@@ -15,6 +16,18 @@ use ssim_records::leg_fields::{
 use ssim_records::{Field, LegColumns};
 use ssim_schedule::PlacedLeg;
 use ssim_values::{Memory, Period};
+
+/// The days of operation of a period, each a box.
+#[derive(Clone, Copy)]
+struct DayBox;
+
+/// The routes of legs.
+#[derive(Clone, Copy)]
+struct Route;
+
+/// The aircraft types of legs.
+#[derive(Clone, Copy)]
+struct Aircraft;
 
 /// Adds the row of a period with a letter for its itinerary.
 #[tactic(auto, unfolding(crate::specs::Page::row))]
@@ -28,8 +41,8 @@ pub(crate) fn push_row(
 {
     page.extend_from_slice(b"<tr>")?;
     push_period(page, letter, period)?;
-    push_route_cell(page, legs)?;
-    push_aircraft_cell(page, legs)?;
+    push_cell_of(page, &Route, legs)?;
+    push_cell_of(page, &Aircraft, legs)?;
     page.extend_from_slice(b"</tr>\n")?;
     Ok(())
 }
@@ -42,38 +55,21 @@ fn push_period(page: &mut Vec<u8>, letter: u8, period: Period) -> Result<(), Mem
     push_cell(page, &[letter])?;
     push_cell(page, &period.first().write())?;
     push_cell(page, &period.last().write())?;
-    push_days(page, &period.mask().write())
+    push_cell_of(page, &DayBox, &period.mask().write())
 }
 
-// Adds the cell of the days of operation, whose columns these are.
+// Adds the cell of values, with the text of each.
 #[tactic(auto, unfolding(crate::specs::Html::cell))]
-fn push_days(page: &mut Vec<u8>, places: &[u8]) -> Result<(), Memory>
-    ensures { OnOk result (page.new.items ≡ page.old.items ++ cell (flat_map day_box places.now)) }
+fn push_cell_of<C, T: Printed<C>>(
+    page: &mut Vec<u8>,
+    context: &C,
+    values: &[T],
+) -> Result<(), Memory>
+    ensures { OnOk result (page.new.items
+        ≡ page.old.items ++ cell (flat_map (T.text context.now) values.now)) }
 {
     page.extend_from_slice(b"<td>")?;
-    push_boxes(page, places)?;
-    page.extend_from_slice(b"</td>")?;
-    Ok(())
-}
-
-// Adds the cell of the routes.
-#[tactic(auto, unfolding(crate::specs::Html::cell))]
-fn push_route_cell(page: &mut Vec<u8>, legs: &[PlacedLeg]) -> Result<(), Memory>
-    ensures { OnOk result (page.new.items ≡ page.old.items ++ cell (routes legs.now)) }
-{
-    page.extend_from_slice(b"<td>")?;
-    push_routes(page, legs)?;
-    page.extend_from_slice(b"</td>")?;
-    Ok(())
-}
-
-// Adds the cell of the aircraft types.
-#[tactic(auto, unfolding(crate::specs::Html::cell))]
-fn push_aircraft_cell(page: &mut Vec<u8>, legs: &[PlacedLeg]) -> Result<(), Memory>
-    ensures { OnOk result (page.new.items ≡ page.old.items ++ cell (aircraft legs.now)) }
-{
-    page.extend_from_slice(b"<td>")?;
-    push_aircraft(page, legs)?;
+    push_each(page, context, values)?;
     page.extend_from_slice(b"</td>")?;
     Ok(())
 }
@@ -89,49 +85,43 @@ fn push_cell(page: &mut Vec<u8>, content: &[u8]) -> Result<(), Memory>
     Ok(())
 }
 
-// Adds the box of each weekday.
-fn push_boxes(page: &mut Vec<u8>, places: &[u8]) -> Result<(), Memory>
-    ensures { OnOk result (page.new.items ≡ page.old.items ++ flat_map day_box places.now) }
-{
-    for place in places {
-        push_box(page, *place)?;
+impl Printed<DayBox> for u8 {
+    ghost text = { λ _. day_box };
+
+    fn print(&self, _box: &DayBox, page: &mut Vec<u8>) -> Result<(), Memory> {
+        if *self == b' ' {
+            page.extend_from_slice(b"<i>.</i>")?;
+            return Ok(());
+        }
+        page.extend_from_slice(b"<b>")?;
+        page.push(*self)?;
+        page.extend_from_slice(b"</b>")?;
+        Ok(())
     }
-    Ok(())
 }
 
-// Adds the box of a weekday.
-fn push_box(page: &mut Vec<u8>, place: u8) -> Result<(), Memory>
-    ensures { OnOk result (page.new.items ≡ page.old.items ++ day_box place) }
-{
-    if place == b' ' {
-        page.extend_from_slice(b"<i>.</i>")?;
-        return Ok(());
+impl Printed<Route> for PlacedLeg {
+    ghost text = { λ _. route_line };
+
+    #[tactic(auto, unfolding(crate::specs::Page::route_line))]
+    fn print(&self, _route: &Route, page: &mut Vec<u8>) -> Result<(), Memory> {
+        page.extend_from_slice(b"<div>")?;
+        push_route(page, &self.columns())?;
+        page.extend_from_slice(b"</div>")?;
+        Ok(())
     }
-    page.extend_from_slice(b"<b>")?;
-    page.push(place)?;
-    page.extend_from_slice(b"</b>")?;
-    Ok(())
 }
 
-// Adds the route of each leg.
-fn push_routes(page: &mut Vec<u8>, legs: &[PlacedLeg]) -> Result<(), Memory>
-    ensures { OnOk result (page.new.items ≡ page.old.items ++ routes legs.now) }
-{
-    for leg in legs {
-        push_route_line(page, leg)?;
-    }
-    Ok(())
-}
+impl Printed<Aircraft> for PlacedLeg {
+    ghost text = { λ _. aircraft_line };
 
-// Adds the line of a leg's route.
-#[tactic(auto, unfolding(crate::specs::Page::route_line))]
-fn push_route_line(page: &mut Vec<u8>, leg: &PlacedLeg) -> Result<(), Memory>
-    ensures { OnOk result (page.new.items ≡ page.old.items ++ route_line leg.now) }
-{
-    page.extend_from_slice(b"<div>")?;
-    push_route(page, &leg.columns())?;
-    page.extend_from_slice(b"</div>")?;
-    Ok(())
+    #[tactic(auto, unfolding(crate::specs::Page::aircraft_line))]
+    fn print(&self, _aircraft: &Aircraft, page: &mut Vec<u8>) -> Result<(), Memory> {
+        page.extend_from_slice(b"<div>")?;
+        push_each(page, &Html, self.columns().text(AIRCRAFT_TYPE))?;
+        page.extend_from_slice(b"</div>")?;
+        Ok(())
+    }
 }
 
 // Adds the stations of a leg with their times.
@@ -173,26 +163,5 @@ fn push_later(page: &mut Vec<u8>, variation: u8) -> Result<(), Memory>
         return Ok(());
     }
     page.extend_from_slice(b" +")?;
-    push_escaped_byte(page, variation)
-}
-
-// Adds the aircraft type of each leg.
-fn push_aircraft(page: &mut Vec<u8>, legs: &[PlacedLeg]) -> Result<(), Memory>
-    ensures { OnOk result (page.new.items ≡ page.old.items ++ aircraft legs.now) }
-{
-    for leg in legs {
-        push_aircraft_line(page, leg)?;
-    }
-    Ok(())
-}
-
-// Adds the line of a leg's aircraft type.
-#[tactic(auto, unfolding(crate::specs::Page::aircraft_line))]
-fn push_aircraft_line(page: &mut Vec<u8>, leg: &PlacedLeg) -> Result<(), Memory>
-    ensures { OnOk result (page.new.items ≡ page.old.items ++ aircraft_line leg.now) }
-{
-    page.extend_from_slice(b"<div>")?;
-    push_escaped(page, leg.columns().text(AIRCRAFT_TYPE))?;
-    page.extend_from_slice(b"</div>")?;
-    Ok(())
+    variation.print(&Html, page)
 }

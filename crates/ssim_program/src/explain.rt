@@ -19,6 +19,7 @@ use crate::store::Store;
 use example::example;
 use file::on_bytes;
 use ssim_guide::words_on;
+use ssim_lines::written;
 use ssim_values::Memory;
 use std::alloc::Global;
 use std::io::Write;
@@ -97,8 +98,6 @@ fn no_refusal(alloc: Global, number: u8) -> Result<Vec<u8>, Memory>
         (λ text. text.items ≡ line (codes "no refusal has the number " ++ decimal number)) }
 {
     let mut text = Vec::new(alloc);
-    match writeln!(text, "no refusal has the number {number}") {
-        Ok(()) => Ok(text),
-        Err(_) => Err(Memory),
-    }
+    written(writeln!(text, "no refusal has the number {number}"))?;
+    Ok(text)
 }

@@ -1,7 +1,16 @@
 //! What is printed: lines, names of files, the line of a refusal, and the printer that takes them.
 
 pub(crate) mod fault_line;
+pub(crate) mod finding;
+pub(crate) mod legs;
 pub(crate) mod name;
+pub(crate) mod note;
 pub(crate) mod printed_line;
 pub(crate) mod printer;
+pub(crate) mod problem;
 pub(crate) mod refusal_line;
+pub(crate) mod step;
+
+/// Values are printed each in a line of its own.
+#[derive(Clone, Copy)]
+pub(crate) struct AsLine;

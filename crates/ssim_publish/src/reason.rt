@@ -9,6 +9,7 @@ use crate::segment_tails::{are_given, leg_lines};
 use crate::wanted_leg::WantedLeg;
 use ssim_base::StationRow;
 use ssim_difference::Difference;
+use ssim_lines::written;
 use ssim_listing::push_sequence;
 use ssim_records::leg_fields::{AIRCRAFT_TYPE, BOOKING_DESIGNATORS, CONFIGURATION, SERVICE_TYPE};
 use ssim_schedule::{PlacedLeg, same_tails};
@@ -230,10 +231,7 @@ fn add_leg(words: &mut Vec<u8>, sequence: u8, found: &[Obstacle]) -> Result<(), 
 
 fn add_obstacle(words: &mut Vec<u8>, obstacle: Obstacle) -> Result<(), Memory> {
     add_blank(words)?;
-    match write!(words, "{obstacle}") {
-        Ok(()) => Ok(()),
-        Err(_) => Err(Memory),
-    }
+    written(write!(words, "{obstacle}"))
 }
 
 // Adds a blank after a word.

@@ -13,9 +13,16 @@ use crate::reason::Reason;
 use crate::reason_pieces::reason_pieces;
 use ssim_base::StationRow;
 use ssim_difference::FlightDifference;
+use ssim_lines::{Printed, push_each};
 use ssim_listing::{name_of, push_period};
 use ssim_values::{Airline, Memory, Period};
 use std::alloc::Global;
+
+/// The name of a flight that still differs.
+#[derive(Clone, Copy)]
+struct Named<'a> {
+    name: &'a [u8],
+}
 
 /// The lines of what no messages can say: for each flight of an airline, in order, the periods of
 /// the dates on which it still differs, each with the reason. These rows of a station table give
@@ -62,31 +69,23 @@ fn push_flight(
 {
     let pieces = reason_pieces(alloc, rows, flight.pieces())?;
     let name = name_of(airline, flight.flight());
-    push_pieces(lines, name.as_slice(), &pieces)
+    let named = Named {
+        name: name.as_slice(),
+    };
+    push_each(lines, &named, &pieces)
 }
 
-// Adds the lines of the periods of a flight with this name.
-fn push_pieces(lines: &mut Vec<u8>, name: &[u8], pieces: &[(Period, Reason)]) -> Result<(), Memory>
-    ensures { OnOk result
-        (lines.new.items ≡ lines.old.items ++ flat_map (unsaid_line name.now) pieces.now) }
-{
-    for piece in pieces {
-        push_piece(lines, name, piece.0, piece.1.words())?;
+impl Printed<Named<'_>> for (Period, Reason) {
+    ghost text = { λ named piece. unsaid_line named.name.now piece };
+
+    fn print(&self, named: &Named<'_>, lines: &mut Vec<u8>) -> Result<(), Memory> {
+        lines.extend_from_slice(b"unsaid ")?;
+        push_name(lines, named.name, self.0)?;
+        lines.push(b' ')?;
+        lines.extend_from_slice(self.1.words())?;
+        lines.push(b'\n')?;
+        Ok(())
     }
-    Ok(())
-}
-
-// Adds the line of a period of a flight with this name, and its reason.
-fn push_piece(lines: &mut Vec<u8>, name: &[u8], period: Period, words: &[u8]) -> Result<(), Memory>
-    ensures { OnOk result
-        (lines.new.items ≡ lines.old.items ++ unsaid_line name.now (period, words.now)) }
-{
-    lines.extend_from_slice(b"unsaid ")?;
-    push_name(lines, name, period)?;
-    lines.push(b' ')?;
-    lines.extend_from_slice(words)?;
-    lines.push(b'\n')?;
-    Ok(())
 }
 
 // Adds a name and a period.

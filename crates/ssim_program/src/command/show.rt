@@ -1,23 +1,18 @@
 //! The command `show`: a flight of a desk on a date.
 
-ghost use Rattle.std.specs.Prelude.{◌≡◌, ◌++◌, ◌∷◌, None, Some, IfErr, IfOk, OnOk};
-ghost use Rattle.ssim_base.specs.Export.{line};
+ghost use Rattle.std.specs.Prelude.{◌≡◌, None, Some, IfErr, IfOk};
 ghost use Rattle.ssim_text.specs.Lines.{day_in};
-ghost use Rattle.ssim_values.specs.Day.{day_text};
-ghost use Rattle.ssim_values.specs.Designator.{designator_text};
 ghost use Rattle.ssim_program.specs.Desks.{NamesDate, RefusesFlight, Shows};
 ghost use Rattle.ssim_command_line.specs.Line.{Show};
 ghost use Rattle.ssim_program.specs.internal.Program.{Prepares, stored};
-ghost use Rattle.ssim_program.specs.print.Shown.{leg_line, shown_flight};
 
 use crate::desk_file::open_holdings;
+use crate::print::legs::lines_of;
 use crate::refusal::Refusal;
 use crate::store::Store;
 use ssim_base::ResolveFault;
 use ssim_desk::{DeskFault, Holdings};
-use ssim_listing::push_leg_text;
-use ssim_schedule::PlacedLeg;
-use ssim_values::{Day, Designator, Fault, Memory};
+use ssim_values::{Day, Designator, Fault};
 use std::alloc::Global;
 
 /// A flight of the desk in a file on a date.
@@ -73,49 +68,4 @@ pub(crate) fn day_in(date: &str) -> Result<Day, Fault>
         Some(text) => Day::parse(text),
         None => Err(Fault::BadDate),
     }
-}
-
-/// The flight and the date, then a line for each leg, or `no flight`.
-fn lines_of(
-    alloc: Global,
-    designator: Designator,
-    day: Day,
-    legs: &[PlacedLeg],
-) -> Result<Vec<u8>, Memory>
-    ensures { IfOk result (λ lines. lines.items ≡ shown_flight designator day legs.now) }
-{
-    let mut lines = Vec::new(alloc);
-    push_heading(&mut lines, designator, day)?;
-    if legs.is_empty() {
-        lines.extend_from_slice(b"no flight\n")?;
-    }
-    for leg in legs {
-        push_leg(&mut lines, leg)?;
-    }
-    Ok(lines)
-}
-
-/// Adds the line of the flight and the date.
-pub(crate) fn push_heading(
-    lines: &mut Vec<u8>,
-    designator: Designator,
-    day: Day,
-) -> Result<(), Memory>
-    ensures { OnOk result (lines.new.items
-        ≡ lines.old.items ++ line (designator_text designator ++ 32 ∷ day_text day)) }
-{
-    lines.extend_from_slice(designator.write().as_slice())?;
-    lines.push(b' ')?;
-    lines.extend_from_slice(&day.write())?;
-    lines.push(b'\n')?;
-    Ok(())
-}
-
-/// Adds the line of a leg.
-fn push_leg(lines: &mut Vec<u8>, leg: &PlacedLeg) -> Result<(), Memory>
-    ensures { OnOk result (lines.new.items ≡ lines.old.items ++ leg_line leg.now) }
-{
-    push_leg_text(lines, leg)?;
-    lines.push(b'\n')?;
-    Ok(())
 }

@@ -3,6 +3,7 @@ ghost use Rattle.std.specs.Prelude.{◌≡◌, ◌++◌, IfOk, IfSome, OnOk, Som
 ghost use Rattle.ssim_base.specs.Export.{line};
 ghost use Rattle.ssim_program.specs.print.PrintedLine.{printed_text};
 
+use ssim_lines::written;
 use ssim_text::Reference;
 use ssim_values::Memory;
 use std::alloc::Global;
@@ -84,10 +85,7 @@ pub(crate) fn add_line<D: fmt::Display>(lines: &mut Vec<u8>, shown: &D) -> Resul
     ensures { OnOk result
         (IfSome (D.output shown.now) (λ text. lines.new.items ≡ lines.old.items ++ line text)) }
 {
-    match writeln!(lines, "{shown}") {
-        Ok(()) => Ok(()),
-        Err(_) => Err(Memory),
-    }
+    written(writeln!(lines, "{shown}"))
 }
 
 /// The line of what is displayed, with its end.

@@ -3,10 +3,12 @@ ghost use Rattle.std.specs.Prelude.{◌≡◌, IfOk, Some};
 ghost use Rattle.std.specs.List.{flat_map};
 ghost use Rattle.ssim_program.specs.rehearse.Rehearsal.{printed_line, rehearsal_text};
 
+use crate::print::AsLine;
 use crate::print::printed_line::add_line;
 use crate::print::refusal_line::RefusalLine;
 use crate::refusal::Refusal;
 use ssim_desk::DeskFault;
+use ssim_lines::{Printed, push_each};
 use ssim_schedule::ExportFault;
 use ssim_text::Reference;
 use ssim_values::{Airline, Memory};
@@ -91,8 +93,14 @@ pub(crate) fn bytes_of(alloc: Global, lines: &[RehearsalLine]) -> Result<Vec<u8>
     ensures { IfOk result (λ bytes. bytes.items ≡ flat_map printed_line lines.now) }
 {
     let mut bytes = Vec::new(alloc);
-    for printed in lines {
-        add_line(&mut bytes, printed)?;
-    }
+    push_each(&mut bytes, &AsLine, lines)?;
     Ok(bytes)
+}
+
+impl Printed<AsLine> for RehearsalLine {
+    ghost text = { λ _ line. printed_line line };
+
+    fn print(&self, _line: &AsLine, bytes: &mut Vec<u8>) -> Result<(), Memory> {
+        add_line(bytes, self)
+    }
 }

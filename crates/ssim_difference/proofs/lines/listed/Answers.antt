@@ -9,6 +9,6 @@ returns c =
     let flights = c.args.flights.now in
     c.in_ok-push_last.ensures
     ∙ ap (λ (bs : List ℕ). bs ++ last_line flights c.args.dates)
-    (c.in_ok-push_flights.ensures
+    (c.in_ok-push_each.ensures
     ∙ ap (λ (bs : List ℕ). bs ++ flat_map
     (flight_lines c.args.airline) flights) c.new-lines.ensures.items)

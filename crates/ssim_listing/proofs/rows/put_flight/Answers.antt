@@ -13,18 +13,18 @@ use Rattle.ssim_listing.proofs.rows.put_flight.Goals as goal
 
 pub returns-in-Periods : goal.returns-in-Periods
 returns-in-Periods c =
-    subst (λ (bytes : List ℕ). OnOk c.put_pieces.result ((before : List ℕ) → HasWritten c.args.rows.now before
-    → HasWritten c.put_pieces.new.rows (before ++ bytes)))
+    subst (λ (bytes : List ℕ). OnOk c.put_each.result ((before : List ℕ) → HasWritten c.args.rows.now before
+    → HasWritten c.put_each.new.rows (before ++ bytes)))
     (ap (λ (d : Division). divided_rows d c.args.name.now c.args.pieces.now) (sym c.in-Periods.is))
-    c.put_pieces.ensures
+    c.put_each.ensures
 
 pub returns-in_ok-dates-in-Dates : goal.returns-in_ok-dates-in-Dates
 returns-in_ok-dates-in-Dates c =
     let rows = date_rows c.args.name.now in
     let seen : ℕ × Bor Legs → FlightDate = λ date. (date.0, date.1.now) in
-    subst (λ (bytes : List ℕ). OnOk c.put_dates.result ((before : List ℕ) → HasWritten c.args.rows.now before
-    → HasWritten c.put_dates.new.rows (before ++ bytes)))
+    subst (λ (bytes : List ℕ). OnOk c.put_each-in-Dates.result ((before : List ℕ) → HasWritten c.args.rows.now before
+    → HasWritten c.put_each-in-Dates.new.rows (before ++ bytes)))
     (sym (flat_map-map rows seen c.deref.result.now)
     ∙ (ap (flat_map rows) (ap seen_dates c.deref.ensures.value ∙ c.in_ok-dates-in-Dates.ensures)
     ∙ ap (λ (d : Division). divided_rows d c.args.name.now c.args.pieces.now) (sym c.in-Dates.is)))
-    c.put_dates.ensures
+    c.put_each-in-Dates.ensures

@@ -19,7 +19,7 @@ returns c = λ after new is.
           ∙ ap (λ (bs : List ℕ). bs ++ last)
           (c.in_ok-extend_from_slice.ensures.items
           ∙ ap (λ (bs : List ℕ). bs ++ c.deref.result.now)
-          (c.in_ok-push_texts.ensures ∙ ap (λ (bs : List ℕ). bs ++ texts) c.new-lines.ensures.items)
+          (c.in_ok-push_each.ensures ∙ ap (λ (bs : List ℕ). bs ++ texts) c.new-lines.ensures.items)
           ∙ ap (λ (bs : List ℕ). texts ++ bs) c.deref.ensures.value)
           ∙ append_assoc texts unsaid last;
     }

@@ -13,7 +13,7 @@ returns c =
     let found = c.in_ok-pieces.pieces.items in
     let name = c.as_slice.ensures.value ∙ (c.name_of-name.ensures
     ∙ ap (flight_name c.args.airline) c.flight.ensures) in
-    on_ok_weaker c.push_pieces.result
+    on_ok_weaker c.push_each.result
     (λ added. record {
       pieces = found;
       give_reasons = subst (λ (ps : List DifferencePiece). GiveReasons (is_among ps) found)
@@ -22,4 +22,4 @@ returns c =
           ∙ ap₂ (λ (n : List ℕ) (ps : List ReasonPiece).
           c.args.lines.now.items ++ flat_map (unsaid_line n) ps) name c.deref.ensures.value;
     })
-    c.push_pieces.ensures
+    c.push_each.ensures
