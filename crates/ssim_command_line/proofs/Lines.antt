@@ -2,6 +2,7 @@
 use Rattle.std.proofs.Common.{◌≡◌, ◌∙◌, inl, inr, Bool, cond, true, false, refl, ap, ap₂, List, [], ◌∷◌}
 use Rattle.std.proofs.Common.{◌++◌, ℕ, arith, Option, Some, None, sym, true≢false, subst}
 use Rattle.std.specs.List.{find, fold}
+use Rattle.std.proofs.Common.{drop, get_or, map}
 use Rattle.std.specs.Option.{option_map_or}
 use Rattle.std.specs.Prelude.{Box, ◌==◌, is_some, option_map, unwrap_or}
 use Rattle.std.specs.Str.{bytes_eq}
@@ -23,12 +24,12 @@ use Rattle.clap.specs.declared.parser.matches.SubCommand.{SubCommand}
 use Rattle.std.specs.Box.{box_value}
 use Rattle.clap.proofs.OnLiterals.{clap_on_literals}
 use Rattle.clap.proofs.WalkLemmas.{both, walk_stopped}
-use Rattle.ssim_command_line.specs.Line.{Command, Line, Spells, Text, commands, line_among, values_in}
+use Rattle.ssim_command_line.specs.Line.{Command, Line, Spells, Text, line_among, values_in}
 use Rattle.ssim_command_line.specs.Usage.{IsFaultOf, IsNoCommand, Names, line_at, whole_program}
 use Rattle.ssim_command_line.specs.declared.command_line.LineFault.{LineFault}
 use Rattle.ssim_command_line.specs.declared.command_line.LineFault.TheVariants as fault
 use Rattle.ssim_command_line.proofs.PlainWords.{level_is}
-use Rattle.ssim_command_line.proofs.Readings.{AllRead, IsReader, all_read, read_of, shape}
+use Rattle.ssim_command_line.proofs.Readings.{IsReader, Reader, read_of, readers, shape}
 
 -- ---- the name of a command, at the top level
 
@@ -61,58 +62,12 @@ met c = (
 abbrev enters : Command → Met
 enters c = (record start { stopped = Some (c.name, []) }, [], Some (shape c))
 
-abbrev AllMet : List Command → Type 0
-AllMet [] = Unit {0}
-AllMet (c ∷ rest) = (met c ≡ enters c) × AllMet rest
+abbrev rows_of : List Reader → List Command
+rows_of = map (λ r. r.row)
 
-all_met : AllMet commands
+all_met : map met (rows_of readers) ≡ map enters (rows_of readers)
 unfolding clap_on_literals
-all_met = (
-  refl,
-  (
-    refl,
-    (
-      refl,
-      (
-        refl,
-        (
-          refl,
-          (
-            refl,
-            (
-              refl,
-              (
-                refl,
-                (
-                  refl,
-                  (
-                    refl,
-                    (
-                      refl,
-                      (
-                        refl,
-                        (
-                          refl,
-                          (
-                            refl,
-                            (
-                              refl,
-                              (refl, (refl, (refl, (refl, (refl, (refl, tt)))))),
-                            ),
-                          ),
-                        ),
-                      ),
-                    ),
-                  ),
-                ),
-              ),
-            ),
-          ),
-        ),
-      ),
-    ),
-  ),
-)
+all_met = refl
 
 -- the words after a subcommand are left to it
 stopped_right : (s : Shape) (names : Labels) (w : Walk) (name : Text) (seen words : List Text)
@@ -180,21 +135,24 @@ record IsFound (cs : List Command) (name : Text) : Type 0 where
   reads : IsReader row
   line : (rows : List Row) (values : List Text) → line_among cs name rows values ≡ row.make rows values
 
-found : (cs : List Command) (name : Text) (values : List Text) → AllMet cs → AllRead cs
-    → is_some (line_among cs name [] values) ≡ true → IsFound cs name
-found [] name values m r e = absurd (true≢false (sym e))
-found (c ∷ rest) name values m r e = choose (bytes_eq name c.name) refl (found rest name values m.1 r.1) e
+found : (rs : List Reader) (name : Text) (values : List Text)
+    → map met (rows_of rs) ≡ map enters (rows_of rs)
+    → is_some (line_among (rows_of rs) name [] values) ≡ true → IsFound (rows_of rs) name
+found [] name values m e = absurd (true≢false (sym e))
+found (r ∷ rest) name values m e =
+    choose (bytes_eq name r.row.name) refl (found rest name values (ap (drop 1) m)) e
   where
-    choose : (b : Bool) → bytes_eq name c.name ≡ b
-        → (is_some (line_among rest name [] values) ≡ true → IsFound rest name)
-        → is_some (cond b (c.make [] values) (line_among rest name [] values)) ≡ true
-        → IsFound (c ∷ rest) name
+    choose : (b : Bool) → bytes_eq name r.row.name ≡ b
+        → (is_some (line_among (rows_of rest) name [] values) ≡ true → IsFound (rows_of rest) name)
+        → is_some (cond b (r.row.make [] values) (line_among (rows_of rest) name [] values)) ≡ true
+        → IsFound (r.row ∷ (rows_of rest)) name
     choose true is later some = record {
-      row = c;
-      is = same_bytes name c.name is;
-      meets = m.0;
-      reads = r.0;
-      line = λ rows given. ap (λ (b : Bool). cond b (c.make rows given) (line_among rest name rows given)) is;
+      row = r.row;
+      is = same_bytes name r.row.name is;
+      meets = ap (λ (l : List Met). get_or l 0 (met r.row)) m;
+      reads = r.reads;
+      line = λ rows given.
+          ap (λ (b : Bool). cond b (r.row.make rows given) (line_among (rows_of rest) name rows given)) is;
     }
     choose false is later some =
         let f = later some in
@@ -204,13 +162,14 @@ found (c ∷ rest) name values m r e = choose (bytes_eq name c.name) refl (found
           meets = f.meets;
           reads = f.reads;
           line = λ rows given.
-              ap (λ (b : Bool). cond b (c.make rows given) (line_among rest name rows given)) is ∙ f.line rows given;
+              ap (λ (b : Bool). cond b (r.row.make rows given) (line_among (rows_of rest) name rows given)) is
+              ∙ f.line rows given;
         }
 
 -- words that spell a command name it
 pub spells_names : (words : List Text) (line : Line) → Spells words line → Names words line
 spells_names words line s =
-    let f = found commands s.name s.values all_met all_read (ap is_some s.made) in
+    let f = found readers s.name s.values all_met (ap is_some s.made) in
     let made : f.row.make [] s.values ≡ Some line = sym (f.line [] s.values) ∙ s.made in
     let read = ap (read_of f.row) (level_is (shape f.row) s.values s.plain) ∙ f.reads s.values (ap is_some made) in
     let rows = rows_after (shape f.row).rules [] s.values in

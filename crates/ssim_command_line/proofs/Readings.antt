@@ -7,7 +7,7 @@ use Rattle.clap.specs.Simple.{Shape, built_leaf, filled, inherited, marked_built
 use Rattle.clap.specs.Walk.{Row, Rule, Walk, first_of, nothing_held, positional, reading_by, settled, walk_from}
 use Rattle.clap.specs.declared.parser.matches.ValueSource.TheVariants.{CommandLine}
 use Rattle.clap.proofs.OnLiterals.{clap_on_literals}
-use Rattle.ssim_command_line.specs.Line.{Command, Line, Text, any_texts, command, commands, four, four_values}
+use Rattle.ssim_command_line.specs.Line.{Command, Line, Text, any_texts, command, four, four_values}
 use Rattle.ssim_command_line.specs.Line.{one, one_and_texts, one_value, three, three_values, two, two_and_texts}
 use Rattle.ssim_command_line.specs.Line.{flag, form_of, optional, several_texts, two_values, values_in}
 use Rattle.ssim_command_line.specs.Line.{Board, Calendar, Check, Diff, Explain, Export, Findings, History, Listing}
@@ -45,9 +45,14 @@ Reads c values = reads c [] start values ≡ ([], c.make [] values)
 abbrev pub IsReader : Command → Type 0
 IsReader c = (values : List Text) → is_some (c.make [] values) ≡ true → Reads c values
 
+-- a row of the table, and that it reads its values so
+pub record Reader : Type 0 where
+  pub row : Command
+  pub reads : IsReader row
+
 -- ---- values
 
-abbrev by : Text → List Rule → (List Row → List Text → Option Line) → Command
+abbrev pub by : Text → List Rule → (List Row → List Text → Option Line) → Command
 by name words make = record { name = name; words = words; make = make }
 
 no_line : {X : Type 0} → false ≡ true → X
@@ -168,103 +173,92 @@ several_reader name words make r (a ∷ b ∷ t ∷ rest) e = taken (r a b) t re
 -- ---- the commands
 
 module _ (name : Text) where
-  one_plain : (make : Text → Line) → IsReader (command name one_value (one make))
+  pub one_plain : (make : Text → Line) → IsReader (command name one_value (one make))
   unfolding clap_on_literals
   one_plain make = one_reader name one_value (λ rows. make) (λ a. refl)
 
-  two_plain : (make : Text → Text → Line) → IsReader (command name two_values (two make))
+  pub two_plain : (make : Text → Text → Line) → IsReader (command name two_values (two make))
   unfolding clap_on_literals
   two_plain make = two_reader name two_values (λ rows. make) (λ a b. refl)
 
-  three_plain : (make : Text → Text → Text → Line) → IsReader (command name three_values (three make))
+  pub three_plain : (make : Text → Text → Text → Line) → IsReader (command name three_values (three make))
   unfolding clap_on_literals
   three_plain make = three_reader name three_values (λ rows. make) (λ a b d. refl)
 
-  four_plain : (make : Text → Text → Text → Text → Line) → IsReader (command name four_values (four make))
+  pub four_plain : (make : Text → Text → Text → Text → Line) → IsReader (command name four_values (four make))
   unfolding clap_on_literals
   four_plain make = four_reader name four_values (λ rows. make) (λ a b d f. refl)
 
-  several_plain : (make : Text → Text → List Text → Line)
+  pub several_plain : (make : Text → Text → List Text → Line)
       → IsReader (command name (two_values ++ several_texts ∷ []) (two_and_texts make))
   unfolding clap_on_literals
-  several_plain make = several_reader name (two_values ++ several_texts ∷ []) (λ rows. make) (λ a b. record {
-    enter = λ t rest. refl;
-    first = λ t u. refl;
-    later = λ x seen t u. refl;
-  })
+  several_plain make = several_reader name (two_values ++ several_texts ∷ []) (λ rows. make)
+      (λ a b. record { enter = λ t rest. refl; first = λ t u. refl; later = λ x seen t u. refl })
 
-abbrev pub AllRead : List Command → Type 0
-AllRead [] = Unit {0}
-AllRead (c ∷ rest) = IsReader c × AllRead rest
+-- the rows of the table with options, or any number of texts
+abbrev pub receive_row : Command
+receive_row = by (codes "receive") (two_values ++ several_texts ∷ optional (codes "refused") ∷ [])
+    (λ rows. two_and_texts (Receive (first_of (codes "refused") rows)))
 
-pub all_read : AllRead commands
+abbrev pub texts_row : Command
+texts_row = command (codes "texts") (one_value ++ any_texts ∷ []) (one_and_texts Texts)
+
+abbrev pub list_row : Command
+list_row = by (codes "list") (one_value ++ any_texts ∷ flag (codes "csv") ∷ flag (codes "dates") ∷ [])
+    (λ rows. one_and_texts (Listing (form_of rows)))
+
+pub receive_read : IsReader receive_row
 unfolding clap_on_literals
-all_read = (
-  one_plain (codes "check") Check,
-  (
-    one_plain (codes "problems") Problems,
-    (
-      one_plain (codes "tidy") Tidy,
-      (
-        three_plain (codes "start") Start,
-        (
-          several_plain (codes "take") Take,
-          (
-            several_reader (codes "receive") (two_values ++ several_texts ∷ optional (codes "refused") ∷ [])
-                (λ rows. Receive (first_of (codes "refused") rows))
-                (λ a b. record { enter = λ t rest. refl; first = λ t u. refl; later = λ x seen t u. refl }),
-            (
-              three_plain (codes "merge") Merge,
-              (
-                texts_reader (codes "texts") (one_value ++ any_texts ∷ []) (λ rows. Texts)
-                    (λ a. (refl, record { enter = λ t rest. refl; first = λ t u. refl; later = λ x seen t u. refl })),
-                (
-                  several_plain (codes "withdraw") Withdraw,
-                  (
-                    three_plain (codes "show") Show,
-                    (
-                      three_plain (codes "history") History,
-                      (
-                        texts_reader (codes "list") (one_value ++ any_texts ∷ flag (codes "csv") ∷ flag (codes "dates") ∷ [])
-                            (λ rows. Listing (form_of rows))
-                            (λ a. (refl, record { enter = λ t rest. refl; first = λ t u. refl; later = λ x seen t u. refl })),
-                        (
-                          three_plain (codes "board") Board,
-                          (
-                            two_plain (codes "calendar") Calendar,
-                            (
-                              two_plain (codes "diff") Diff,
-                              (
-                                four_plain (codes "publish") Publish,
-                                (
-                                  one_plain (codes "page") Page,
-                                  (
-                                    one_plain (codes "findings") Findings,
-                                    (
-                                      one_plain (codes "export") Export,
-                                      (
-                                        three_plain (codes "rehearse") Rehearse,
-                                        (
-                                          one_plain (codes "explain") Explain,
-                                          tt,
-                                        ),
-                                      ),
-                                    ),
-                                  ),
-                                ),
-                              ),
-                            ),
-                          ),
-                        ),
-                      ),
-                    ),
-                  ),
-                ),
-              ),
-            ),
-          ),
-        ),
-      ),
-    ),
-  ),
-)
+receive_read = several_reader receive_row.name receive_row.words (λ rows. Receive (first_of (codes "refused") rows))
+    (λ a b. record { enter = λ t rest. refl; first = λ t u. refl; later = λ x seen t u. refl })
+
+pub texts_read_by : IsReader texts_row
+unfolding clap_on_literals
+texts_read_by = texts_reader texts_row.name texts_row.words (λ rows. Texts)
+    (λ a. (refl, record { enter = λ t rest. refl; first = λ t u. refl; later = λ x seen t u. refl }))
+
+pub list_read : IsReader list_row
+unfolding clap_on_literals
+list_read = texts_reader list_row.name list_row.words (λ rows. Listing (form_of rows))
+    (λ a. (refl, record { enter = λ t rest. refl; first = λ t u. refl; later = λ x seen t u. refl }))
+
+abbrev pub with_one : Text → (Text → Line) → Reader
+with_one name make = record { row = command name one_value (one make); reads = one_plain name make }
+
+abbrev pub with_three : Text → (Text → Text → Text → Line) → Reader
+with_three name make = record { row = command name three_values (three make); reads = three_plain name make }
+
+abbrev pub with_two : Text → (Text → Text → Line) → Reader
+with_two name make = record { row = command name two_values (two make); reads = two_plain name make }
+
+abbrev pub with_several : Text → (Text → Text → List Text → Line) → Reader
+with_several name make = record {
+  row = command name (two_values ++ several_texts ∷ []) (two_and_texts make);
+  reads = several_plain name make;
+}
+
+-- all the rows of the table
+abbrev pub readers : List Reader
+readers =
+    with_one (codes "check") Check
+    ∷ with_one (codes "problems") Problems
+    ∷ with_one (codes "tidy") Tidy
+    ∷ with_three (codes "start") Start
+    ∷ with_several (codes "take") Take
+    ∷ record { row = receive_row; reads = receive_read }
+    ∷ with_three (codes "merge") Merge
+    ∷ record { row = texts_row; reads = texts_read_by }
+    ∷ with_several (codes "withdraw") Withdraw
+    ∷ with_three (codes "show") Show
+    ∷ with_three (codes "history") History
+    ∷ record { row = list_row; reads = list_read }
+    ∷ with_three (codes "board") Board
+    ∷ with_two (codes "calendar") Calendar
+    ∷ with_two (codes "diff") Diff
+    ∷ record { row = command (codes "publish") four_values (four Publish); reads = four_plain (codes "publish") Publish }
+    ∷ with_one (codes "page") Page
+    ∷ with_one (codes "findings") Findings
+    ∷ with_one (codes "export") Export
+    ∷ with_three (codes "rehearse") Rehearse
+    ∷ with_one (codes "explain") Explain
+    ∷ []
