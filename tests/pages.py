@@ -2,8 +2,8 @@
 """Makes the manual page and the completion from the program's help, and compares them: pages.py PROGRAM [page]
 
 docs/ssimdesk.1 is a manual page, docs/ssimdesk.bash completes the words of a command line in bash. Both have each command that
-`--help` lists, with its values and options as `COMMAND --help` shows them. With `page` the files are written, and nothing is
-compared. The last line is 'N passed, M failed'.
+`--help` lists, with its values and options as `COMMAND --help` shows them. `--help` names each command once in its lists of what
+they are for. With `page` the files are written, and nothing is compared. The last line is 'N passed, M failed'.
 """
 import os
 import re
@@ -138,9 +138,14 @@ def completion(pages):
     return COMPLETED.replace("NAMES", names).replace("CASES", "\n".join(cases(pages)))
 
 
-def made(program):
+def grouped(whole):
+    """The commands that help names in its lists of what they are for."""
+    lists = section(whole.after, "The commands by what they are for:")
+    return [name for line in lists for name in line.partition(":")[2].replace(",", " ").split()]
+
+
+def made(program, whole):
     """The text of each file."""
-    whole = Page(printed(program, "--help"))
     pages = [(name, Page(printed(program, name, "--help"))) for name in whole.commands]
     version = printed(program, "--version").split()[-1]
     return {MANUAL: manual(version, whole, pages), COMPLETION: completion(pages)}
@@ -148,7 +153,8 @@ def made(program):
 
 def main():
     program = os.path.abspath(sys.argv[1])
-    files = made(program)
+    whole = Page(printed(program, "--help"))
+    files = made(program, whole)
     if sys.argv[2:] == ["page"]:
         for name, text in files.items():
             with open(os.path.join(TOP, name), "w", encoding="utf-8", newline="\n") as file:
@@ -160,7 +166,10 @@ def main():
             if file.read() != text:
                 failed += 1
                 print(f"{name} is not what the help says: tests/pages.py PROGRAM page writes it anew")
-    print(f"{len(files) - failed} passed, {failed} failed")
+    if sorted(grouped(whole)) != sorted(whole.commands):
+        failed += 1
+        print("the lists of help, by what the commands are for, do not name each command once")
+    print(f"{len(files) + 1 - failed} passed, {failed} failed")
     return 1 if failed else 0
 
 

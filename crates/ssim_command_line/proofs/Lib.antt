@@ -1,7 +1,5 @@
-pub mod Words
-pub mod Levels
-pub mod Right
-pub mod TextWords
-pub mod Forms
-pub mod Lines
 pub mod Rows
+pub mod TableLoops
+pub mod PlainWords
+pub mod Readings
+pub mod Lines

@@ -1,7 +1,11 @@
--- The command lines of the program.
+-- The command lines of the program: the table of its commands.
 use Rattle.std.specs.Prelude.{◌≡◌, ◌==◌, ℕ, Bool, true, false, not, List, [], ◌∷◌, ◌++◌, Option, None}
-use Rattle.std.specs.Prelude.{Some, codes, if◌then◌else◌}
+use Rattle.std.specs.Prelude.{Some, codes, if◌then◌else◌, unwrap_or, flat_map}
 use Rattle.std.specs.List.{list_all}
+use Rattle.std.specs.Option.{option_map_or}
+use Rattle.std.specs.Str.{bytes_eq}
+use Rattle.clap.specs.Words.{Row, Rule, all_of, first_of, new_rule}
+use Rattle.clap.specs.declared.builder.action.ArgAction.TheVariants.{Append, SetTrue}
 use Rattle.ssim_command_line.specs.declared.command_line.ListForm.{ListForm}
 
 -- a text as its bytes
@@ -10,96 +14,158 @@ Text = List ℕ
 
 -- a command with its values
 pub data Line : Type 0 where
-  Check : Text → Line
-  Problems : Text → Line
-  Tidy : Text → Line
-  Start : Text → Text → Text → Line
-  Take : Text → Text → List Text → Line
-  Receive : Option Text → Text → Text → List Text → Line
-  Merge : Text → Text → Text → Line
-  Texts : Text → List Text → Line
-  Withdraw : Text → Text → List Text → Line
-  Show : Text → Text → Text → Line
-  History : Text → Text → Text → Line
-  Board : Text → Text → Text → Line
-  Listing : ListForm → Text → List Text → Line
-  Calendar : Text → Text → Line
-  Page : Text → Line
-  Diff : Text → Text → Line
-  Publish : Text → Text → Text → Text → Line
-  Findings : Text → Line
-  Export : Text → Line
-  Rehearse : Text → Text → Text → Line
-  Explain : Text → Line
+  Check : (dataset : Text) → Line
+  Problems : (dataset : Text) → Line
+  Tidy : (dataset : Text) → Line
+  Start : (dataset stations out : Text) → Line
+  Take : (desk out : Text) (texts : List Text) → Line
+  Receive : (refused : Option Text) (desk out : Text) (texts : List Text) → Line
+  Merge : (desk other out : Text) → Line
+  Texts : (desk : Text) (flights : List Text) → Line
+  Withdraw : (desk out : Text) (references : List Text) → Line
+  Show : (desk flight date : Text) → Line
+  History : (desk flight date : Text) → Line
+  Board : (file station date : Text) → Line
+  Listing : (form : ListForm) (file : Text) (flights : List Text) → Line
+  Calendar : (file flight : Text) → Line
+  Page : (file : Text) → Line
+  Diff : (from to : Text) → Line
+  Publish : (from to reference out : Text) → Line
+  Findings : (desk : Text) → Line
+  Export : (desk : Text) → Line
+  Rehearse : (dataset stations script : Text) → Line
+  Explain : (word : Text) → Line
 
--- the name of the command of a line
-abbrev pub name_of : Line → Text
-name_of (Check dataset) = codes "check"
-name_of (Problems dataset) = codes "problems"
-name_of (Tidy dataset) = codes "tidy"
-name_of (Start dataset stations out) = codes "start"
-name_of (Take desk out texts) = codes "take"
-name_of (Receive refused desk out texts) = codes "receive"
-name_of (Merge desk other out) = codes "merge"
-name_of (Texts desk flights) = codes "texts"
-name_of (Withdraw desk out references) = codes "withdraw"
-name_of (Show desk flight date) = codes "show"
-name_of (History desk flight date) = codes "history"
-name_of (Board file station date) = codes "board"
-name_of (Listing form file flights) = codes "list"
-name_of (Calendar file flight) = codes "calendar"
-name_of (Page file) = codes "page"
-name_of (Diff from to) = codes "diff"
-name_of (Publish from to reference out) = codes "publish"
-name_of (Findings desk) = codes "findings"
-name_of (Export desk) = codes "export"
-name_of (Rehearse dataset stations script) = codes "rehearse"
-name_of (Explain word) = codes "explain"
+-- ---- the words of a command, by their ids
 
--- an option and its value, if it is given
-abbrev pub option_words : Text → Option Text → List Text
-option_words name None = []
-option_words name (Some value) = name ∷ value ∷ []
+-- a value that has to be there
+abbrev pub needed : Text → Rule
+needed id = record (new_rule id) { value_names = 1; required = true }
 
--- an option without a value, if it is given
-abbrev pub flag_words : Text → Bool → List Text
-flag_words name is_given = if is_given then name ∷ [] else []
+-- one or more texts
+abbrev pub several_texts : Rule
+several_texts = record (needed (codes "texts")) { action = Some Append }
 
--- the options of `list` that are given
-abbrev pub form_words : ListForm → List Text
-form_words form = flag_words (codes "--csv") form.csv ++ flag_words (codes "--dates") form.dates
+-- any number of texts
+abbrev pub any_texts : Rule
+any_texts = record (new_rule (codes "texts")) { value_names = 1; action = Some Append }
 
--- the values of a line, in the order in which they are written; options come first
-abbrev pub values_of : Line → List Text
-values_of (Check dataset) = dataset ∷ []
-values_of (Problems dataset) = dataset ∷ []
-values_of (Tidy dataset) = dataset ∷ []
-values_of (Start dataset stations out) = dataset ∷ stations ∷ out ∷ []
-values_of (Take desk out texts) = desk ∷ out ∷ texts
-values_of (Receive refused desk out texts) =
-    option_words (codes "--refused") refused ++ desk ∷ out ∷ texts
-values_of (Merge desk other out) = desk ∷ other ∷ out ∷ []
-values_of (Texts desk flights) = desk ∷ flights
-values_of (Withdraw desk out references) = desk ∷ out ∷ references
-values_of (Show desk flight date) = desk ∷ flight ∷ date ∷ []
-values_of (History desk flight date) = desk ∷ flight ∷ date ∷ []
-values_of (Board file station date) = file ∷ station ∷ date ∷ []
-values_of (Listing form file flights) = form_words form ++ file ∷ flights
-values_of (Calendar file flight) = file ∷ flight ∷ []
-values_of (Page file) = file ∷ []
-values_of (Diff from to) = from ∷ to ∷ []
-values_of (Publish from to reference out) = from ∷ to ∷ reference ∷ out ∷ []
-values_of (Findings desk) = desk ∷ []
-values_of (Export desk) = desk ∷ []
-values_of (Rehearse dataset stations script) = dataset ∷ stations ∷ script ∷ []
-values_of (Explain word) = word ∷ []
+-- an option with a value
+abbrev pub optional : Text → Rule
+optional name = record (new_rule name) { long = Some name; value_names = 1 }
 
--- `take` and `receive` have one text or more, `withdraw` one reference or more
-abbrev pub is_whole : Line → Bool
-is_whole (Take desk out []) = false
-is_whole (Receive refused desk out []) = false
-is_whole (Withdraw desk out []) = false
-is_whole _ = true
+-- an option without a value
+abbrev pub flag : Text → Rule
+flag name = record (new_rule name) { long = Some name; action = Some SetTrue }
+
+abbrev pub one_value : List Rule
+one_value = needed (codes "first") ∷ []
+
+abbrev pub two_values : List Rule
+two_values = one_value ++ needed (codes "second") ∷ []
+
+abbrev pub three_values : List Rule
+three_values = two_values ++ needed (codes "third") ∷ []
+
+abbrev pub four_values : List Rule
+four_values = three_values ++ needed (codes "fourth") ∷ []
+
+-- the values that are given, in order
+abbrev pub values_in : List Row → List Text
+values_in rows = flat_map (λ id. unwrap_or (all_of id rows) []) (codes "first" ∷ codes "second"
+    ∷ codes "third" ∷ codes "fourth" ∷ codes "texts" ∷ [])
+
+-- whether an option without a value is given
+abbrev pub is_given : Text → List Row → Bool
+is_given name rows = option_map_or (λ text. bytes_eq text (codes "true")) (first_of name rows) false
+
+-- which of the options of `list` are given
+abbrev pub form_of : List Row → ListForm
+form_of rows = record { csv = is_given (codes "csv") rows; dates = is_given (codes "dates") rows }
+
+-- ---- the line that values make: of as many as it names, or of those and the texts after them
+
+abbrev pub one : (Text → Line) → List Text → Option Line
+one make (a ∷ []) = Some (make a)
+one make _ = None
+
+abbrev pub two : (Text → Text → Line) → List Text → Option Line
+two make (a ∷ b ∷ []) = Some (make a b)
+two make _ = None
+
+abbrev pub three : (Text → Text → Text → Line) → List Text → Option Line
+three make (a ∷ b ∷ d ∷ []) = Some (make a b d)
+three make _ = None
+
+abbrev pub four : (Text → Text → Text → Text → Line) → List Text → Option Line
+four make (a ∷ b ∷ d ∷ e ∷ []) = Some (make a b d e)
+four make _ = None
+
+abbrev pub one_and_texts : (Text → List Text → Line) → List Text → Option Line
+one_and_texts make (a ∷ texts) = Some (make a texts)
+one_and_texts make _ = None
+
+abbrev pub two_and_texts : (Text → Text → List Text → Line) → List Text → Option Line
+two_and_texts make (a ∷ b ∷ t ∷ texts) = Some (make a b (t ∷ texts))
+two_and_texts make _ = None
+
+-- ---- the table
+
+-- a command: its name, its words, and the line that its options and values make
+pub record Command : Type 0 where
+  pub name : Text
+  pub words : List Rule
+  pub make : List Row → List Text → Option Line
+
+-- a command without options
+abbrev pub command : Text → List Rule → (List Text → Option Line) → Command
+command name words make = record { name = name; words = words; make = λ rows. make }
+
+-- the commands, in the order of help
+abbrev pub commands : List Command
+commands =
+    command (codes "check") one_value (one Check)
+    ∷ command (codes "problems") one_value (one Problems)
+    ∷ command (codes "tidy") one_value (one Tidy)
+    ∷ command (codes "start") three_values (three Start)
+    ∷ command (codes "take") (two_values ++ several_texts ∷ []) (two_and_texts Take)
+    ∷ record {
+      name = codes "receive";
+      words = two_values ++ several_texts ∷ optional (codes "refused") ∷ [];
+      make = λ rows. two_and_texts (Receive (first_of (codes "refused") rows));
+    }
+    ∷ command (codes "merge") three_values (three Merge)
+    ∷ command (codes "texts") (one_value ++ any_texts ∷ []) (one_and_texts Texts)
+    ∷ command (codes "withdraw") (two_values ++ several_texts ∷ []) (two_and_texts Withdraw)
+    ∷ command (codes "show") three_values (three Show)
+    ∷ command (codes "history") three_values (three History)
+    ∷ record {
+      name = codes "list";
+      words = one_value ++ any_texts ∷ flag (codes "csv") ∷ flag (codes "dates") ∷ [];
+      make = λ rows. one_and_texts (Listing (form_of rows));
+    }
+    ∷ command (codes "board") three_values (three Board)
+    ∷ command (codes "calendar") two_values (two Calendar)
+    ∷ command (codes "diff") two_values (two Diff)
+    ∷ command (codes "publish") four_values (four Publish)
+    ∷ command (codes "page") one_value (one Page)
+    ∷ command (codes "findings") one_value (one Findings)
+    ∷ command (codes "export") one_value (one Export)
+    ∷ command (codes "rehearse") three_values (three Rehearse)
+    ∷ command (codes "explain") one_value (one Explain)
+    ∷ []
+
+-- the line of the first of the commands that has the name, if the values make one
+abbrev pub line_among : List Command → Text → List Row → List Text → Option Line
+line_among [] name rows values = None
+line_among (c ∷ rest) name rows values =
+    if bytes_eq name c.name then c.make rows values else line_among rest name rows values
+
+-- the line of the command of this name, of its options and values
+abbrev pub line_from : Text → List Row → List Text → Option Line
+line_from = line_among commands
+
+-- ---- plain words
 
 -- the word is not empty and begins with no hyphen (45), or is the hyphen alone
 abbrev pub is_plain : Text → Bool
@@ -107,10 +173,12 @@ is_plain [] = false
 is_plain (x ∷ []) = true
 is_plain (x ∷ y ∷ rest) = not (x == 45)
 
--- The words are the program's name, the command's name and its values, which are plain: no option
--- is given.
+-- The words are the program's name, a command's name and plain values, which make the line. No
+-- option is given.
 pub record Spells (words : List Text) (line : Line) : Type 0 where
   pub program : Text
-  pub words_are : words ≡ program ∷ name_of line ∷ values_of line
-  pub whole : is_whole line ≡ true
-  pub plain : list_all is_plain (values_of line) ≡ true
+  pub name : Text
+  pub values : List Text
+  pub words_are : words ≡ program ∷ name ∷ values
+  pub plain : list_all is_plain values ≡ true
+  pub made : line_from name [] values ≡ Some line

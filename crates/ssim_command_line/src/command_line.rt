@@ -1,15 +1,13 @@
 //! The command that the words name.
-ghost use Rattle.std.specs.Prelude.{◌≡◌, IfErr, IfOk, MatchResult, Option, codes, map, option_map};
-ghost use Rattle.clap.specs.Words.{all_of, app_of, first_of, found_of, rows_of};
-ghost use Rattle.ssim_command_line.specs.Commands.{whole_program};
-ghost use Rattle.ssim_command_line.specs.Line.{Line, Spells, Take, Withdraw};
-ghost use Rattle.ssim_command_line.specs.Request.{desk_line_at, line_at, line_of, three_of, two_and_texts_of};
-ghost use Rattle.ssim_command_line.specs.Request.{view_at, whole_view_at};
-ghost use Rattle.ssim_command_line.specs.Request.{form_of, four_of, is_given, texts_of, two_of, with_flights, with_form};
-ghost use Rattle.ssim_command_line.specs.Request.{with_refused, with_texts};
-ghost use Rattle.ssim_command_line.specs.Usage.{IsFaultOf, Names};
+ghost use Rattle.std.specs.Prelude.{◌≡◌, ◌++◌, [], IfErr, IfOk, MatchResult, Option, codes, map};
+ghost use Rattle.std.specs.Prelude.{option_map, unwrap_or};
+ghost use Rattle.clap.specs.Words.{all_of, app_of, found_of, first_of, rows_of};
+ghost use Rattle.ssim_command_line.specs.Line.{Line, Spells, form_of, is_given, line_from, values_in};
+ghost use Rattle.ssim_command_line.specs.Request.{line_of};
+ghost use Rattle.ssim_command_line.specs.Usage.{IsFaultOf, Names, line_at};
 
-use crate::commands::command;
+use crate::program::program;
+use crate::table::{PLACES, commands};
 use clap::error::ErrorKind;
 use clap::{ArgMatches, Error};
 use std::alloc::{AllocError, Global};
@@ -23,56 +21,122 @@ pub struct ListForm {
     pub dates: bool,
 }
 
-/// A command with its values: names of files, but for the flights of `Texts` and of `List`, the
-/// references of `Withdraw`, the flight and the date of `Show` and of `History`, the station and
-/// the date of `Board`, the flight of `Calendar`, the reference of `Publish`, and the word of
-/// `Explain`.
+/// A command with its values. Those named `dataset`, `stations`, `desk`, `other`, `file`, `from`,
+/// `to`, `script`, `out`, `refused` and `texts` are names of files.
 #[derive(Drop)]
 pub enum Request<'a> {
     /// Print the notes on a data set and a summary.
-    Check(&'a str),
+    Check {
+        dataset: &'a str,
+    },
     /// Print every invalid record of a data set.
-    Problems(&'a str),
+    Problems {
+        dataset: &'a str,
+    },
     /// Export a data set.
-    Tidy(&'a str),
+    Tidy {
+        dataset: &'a str,
+    },
     /// Write the desk file of a data set and a station table.
-    Start(&'a str, &'a str, &'a str),
-    /// Take texts at a desk, and write its desk file: DESK, OUT and the texts.
-    Take(&'a str, &'a str, Vec<&'a str>),
+    Start {
+        dataset: &'a str,
+        stations: &'a str,
+        out: &'a str,
+    },
+    /// Take texts at a desk, and write its desk file.
+    Take {
+        desk: &'a str,
+        out: &'a str,
+        texts: Vec<&'a str>,
+    },
     /// Take each text of mailbox files that a desk takes, keep the refused ones, if a file for them
-    /// is named, and write the desk file: that file, DESK, OUT and the mailbox files.
-    Receive(Option<&'a str>, &'a str, &'a str, Vec<&'a str>),
+    /// is named, and write the desk file.
+    Receive {
+        refused: Option<&'a str>,
+        desk: &'a str,
+        out: &'a str,
+        texts: Vec<&'a str>,
+    },
     /// Merge two desks, and write the desk file.
-    Merge(&'a str, &'a str, &'a str),
+    Merge {
+        desk: &'a str,
+        other: &'a str,
+        out: &'a str,
+    },
     /// Print the texts of the messages of a desk: of all, or of those that name one of the flights.
-    Texts(&'a str, Vec<&'a str>),
-    /// Withdraw messages from a desk, and write its desk file: DESK, OUT and the references.
-    Withdraw(&'a str, &'a str, Vec<&'a str>),
+    Texts {
+        desk: &'a str,
+        flights: Vec<&'a str>,
+    },
+    /// Withdraw messages from a desk, and write its desk file.
+    Withdraw {
+        desk: &'a str,
+        out: &'a str,
+        references: Vec<&'a str>,
+    },
     /// Print a flight of a desk on a date.
-    Show(&'a str, &'a str, &'a str),
+    Show {
+        desk: &'a str,
+        flight: &'a str,
+        date: &'a str,
+    },
     /// Print what the messages of a desk did with a flight on a date.
-    History(&'a str, &'a str, &'a str),
+    History {
+        desk: &'a str,
+        flight: &'a str,
+        date: &'a str,
+    },
     /// Print the departures and arrivals of a desk or a data set at a station on a local date.
-    Board(&'a str, &'a str, &'a str),
+    Board {
+        file: &'a str,
+        station: &'a str,
+        date: &'a str,
+    },
     /// Print the periods or the dates of the flights of a desk or a data set: of all, or of these.
-    List(ListForm, &'a str, Vec<&'a str>),
+    List {
+        form: ListForm,
+        file: &'a str,
+        flights: Vec<&'a str>,
+    },
     /// Print on which dates a flight of a desk or a data set operates.
-    Calendar(&'a str, &'a str),
+    Calendar {
+        file: &'a str,
+        flight: &'a str,
+    },
     /// Print the timetable of a desk or a data set as a page of HTML.
-    Page(&'a str),
+    Page {
+        file: &'a str,
+    },
     /// Print on which dates flights differ in two timetables, of desks or of data sets.
-    Diff(&'a str, &'a str),
-    /// Write the messages that lead one timetable to another, under references from this one on:
-    /// FROM, TO, the reference and the file of the messages.
-    Publish(&'a str, &'a str, &'a str, &'a str),
+    Diff {
+        from: &'a str,
+        to: &'a str,
+    },
+    /// Write the messages that lead one timetable to another, under references from this one on.
+    Publish {
+        from: &'a str,
+        to: &'a str,
+        reference: &'a str,
+        out: &'a str,
+    },
     /// Print what the sub-messages of a desk found.
-    Findings(&'a str),
+    Findings {
+        desk: &'a str,
+    },
     /// Export a desk.
-    Export(&'a str),
+    Export {
+        desk: &'a str,
+    },
     /// Run a script on desks.
-    Rehearse(&'a str, &'a str, &'a str),
+    Rehearse {
+        dataset: &'a str,
+        stations: &'a str,
+        script: &'a str,
+    },
     /// Explain the refusals of a number, or what is invalid in a file.
-    Explain(&'a str),
+    Explain {
+        word: &'a str,
+    },
 }
 
 /// Why the words make no request. It has no number of its own: the program prints 90, or what is
@@ -90,140 +154,102 @@ pub enum LineFault {
     NoCommand,
 }
 
-#[tactic(auto, using(crate::proofs::Rows::first_rows))]
-fn value_at<'a>(inner: &ArgMatches<'a>, id: &str) -> Option<&'a str>
-    ensures { option_map (λ s. s.now) result ≡ first_of id.now (rows_of (found_of inner.now)) }
-{
-    inner.get_str(id)
+/// The request with the values in its first fields, the texts after them in the next (one or more, if
+/// a `+` says so), and what the options say in the last. Nothing, if the values are too few or too
+/// many.
+macro_rules! request {
+    (($alloc:expr, $inner:expr, $values:expr) $name:ident($($field:ident),+)) => {
+        match $values {
+            [$($field),+] => Ok(Some(Request::$name { $($field: *$field),+ })),
+            _ => Ok(None),
+        }
+    };
+    (($alloc:expr, $inner:expr, $values:expr)
+        $name:ident($($field:ident),+; $texts:ident + $($options:tt)*)) => {
+        match $values {
+            [$($field),+, _, ..] => {
+                request!(($alloc, $inner, $values) $name($($field),+; $texts $($options)*))
+            }
+            _ => Ok(None),
+        }
+    };
+    (($alloc:expr, $inner:expr, $values:expr)
+        $name:ident($($field:ident),+; $texts:ident $(; $options:ident: $of:ident)?)) => {
+        match $values {
+            [$($field),+, $texts @ ..] => Ok(Some(Request::$name {
+                $($field: *$field,)+
+                $texts: $texts.to_vec($alloc)?,
+                $($options: $of($inner),)?
+            })),
+            _ => Ok(None),
+        }
+    };
 }
 
+/// The request of the row that has the name.
+macro_rules! request_of {
+    (($of:expr, $given:tt)
+        $($name:literal $words:tt => $request:ident $fields:tt $about:literal $example:literal)+) => {
+        match $of {
+            $($name => request!($given $request $fields),)+
+            _ => Ok(None),
+        }
+    };
+}
+
+/// The values of a place, if it has any.
 #[tactic(auto, using(crate::proofs::Rows::all_rows))]
-fn texts_at<'m, 'a>(inner: &'m ArgMatches<'a>) -> Option<&'m [&'a str]>
+fn values_at<'m, 'a>(inner: &'m ArgMatches<'a>, place: &str) -> Option<&'m [&'a str]>
     ensures { option_map (λ s. map (λ v. v.now) s.now) result
-        ≡ all_of (codes "texts") (rows_of (found_of inner.now)) }
+        ≡ all_of place.now (rows_of (found_of inner.now)) }
 {
-    inner.get_raw("texts")
+    inner.get_raw(place)
 }
 
-fn one<'a>(inner: &ArgMatches<'a>) -> Option<&'a str>
-    ensures { option_map (λ s. s.now) result
-        ≡ first_of (codes "first") (rows_of (found_of inner.now)) }
+/// Adds the values of a place, if it has any.
+fn add_values<'a>(values: &mut Vec<&'a str>, given: Option<&[&'a str]>) -> Result<(), AllocError>
+    ensures { IfOk result (λ _. map (λ v. v.now) values.new.items ≡ map (λ v. v.now) values.old.items
+        ++ unwrap_or (option_map (λ s. map (λ v. v.now) s.now) given.entry) []) }
 {
-    value_at(inner, "first")
-}
-
-fn two<'a>(inner: &ArgMatches<'a>) -> Option<(&'a str, &'a str)>
-    ensures { option_map (λ p. (p.0.now, p.1.now)) result ≡ two_of (rows_of (found_of inner.now)) }
-{
-    let first = value_at(inner, "first")?;
-    let second = value_at(inner, "second")?;
-    Some((first, second))
-}
-
-fn three<'a>(inner: &ArgMatches<'a>) -> Option<(&'a str, &'a str, &'a str)>
-    ensures { option_map (λ p. (p.0.now, p.1.now, p.2.now)) result
-        ≡ three_of (rows_of (found_of inner.now)) }
-{
-    let (first, second) = two(inner)?;
-    let third = value_at(inner, "third")?;
-    Some((first, second, third))
-}
-
-/// Four values.
-type Four<'a> = (&'a str, &'a str, &'a str, &'a str);
-
-fn four<'a>(inner: &ArgMatches<'a>) -> Option<Four<'a>>
-    ensures { option_map (λ p. (p.0.now, p.1.now, p.2.now, p.3.now)) result
-        ≡ four_of (rows_of (found_of inner.now)) }
-{
-    let (first, second, third) = three(inner)?;
-    let fourth = value_at(inner, "fourth")?;
-    Some((first, second, third, fourth))
-}
-
-/// Two values and one or more texts.
-type TwoAndTexts<'a> = (&'a str, &'a str, Vec<&'a str>);
-
-fn two_and_texts<'a>(
-    alloc: Global,
-    inner: &ArgMatches<'a>,
-) -> Result<Option<TwoAndTexts<'a>>, AllocError>
-    ensures { IfOk result
-        (λ r. option_map (λ p. (p.0.now, p.1.now, map (λ t. t.now) p.2.items)) r
-        ≡ two_and_texts_of (rows_of (found_of inner.now))) }
-{
-    let Some((first, second)) = two(inner) else {
-        return Ok(None);
-    };
-    let Some(texts) = texts_at(inner) else {
-        return Ok(None);
-    };
-    Ok(Some((first, second, texts.to_vec(alloc)?)))
-}
-
-/// The request that the matches of `take` make.
-fn taking<'a>(alloc: Global, inner: &ArgMatches<'a>) -> Result<Option<Request<'a>>, AllocError>
-    ensures { IfOk result
-        (λ r. option_map line_of r ≡ with_texts Take (rows_of (found_of inner.now))) }
-{
-    let values = two_and_texts(alloc, inner)?;
-    Ok(values.map(|(desk, out, texts)| Request::Take(desk, out, texts)))
-}
-
-/// The request that the matches of `receive` make.
-fn receiving<'a>(alloc: Global, inner: &ArgMatches<'a>) -> Result<Option<Request<'a>>, AllocError>
-    ensures { IfOk result
-        (λ r. option_map line_of r ≡ with_refused (rows_of (found_of inner.now))) }
-{
-    let Some((desk, out, texts)) = two_and_texts(alloc, inner)? else {
-        return Ok(None);
-    };
-    let refused = value_at(inner, "refused");
-    Ok(Some(Request::Receive(refused, desk, out, texts)))
-}
-
-/// The request that the matches of `withdraw` make.
-fn withdrawing<'a>(alloc: Global, inner: &ArgMatches<'a>) -> Result<Option<Request<'a>>, AllocError>
-    ensures { IfOk result
-        (λ r. option_map line_of r ≡ with_texts Withdraw (rows_of (found_of inner.now))) }
-{
-    let values = two_and_texts(alloc, inner)?;
-    Ok(values.map(|(desk, out, references)| Request::Withdraw(desk, out, references)))
-}
-
-/// The texts, none if none is given.
-fn given_texts<'a>(alloc: Global, inner: &ArgMatches<'a>) -> Result<Vec<&'a str>, AllocError>
-    ensures { IfOk result
-        (λ texts. map (λ t. t.now) texts.items ≡ texts_of (rows_of (found_of inner.now))) }
-{
-    match texts_at(inner) {
-        Some(texts) => texts.to_vec(alloc),
-        None => Ok(Vec::new(alloc)),
+    match given {
+        Some(more) => values.extend_from_slice(more),
+        None => Ok(()),
     }
 }
 
-/// The request that the matches of `texts` make.
-fn showing_texts<'a>(
-    alloc: Global,
-    inner: &ArgMatches<'a>,
-) -> Result<Option<Request<'a>>, AllocError>
-    ensures { IfOk result (λ r. option_map line_of r
-        ≡ with_flights (rows_of (found_of inner.now))) }
+/// The values of a command, in the order in which they are written.
+fn values_in<'a>(alloc: Global, inner: &ArgMatches<'a>) -> Result<Vec<&'a str>, AllocError>
+    ensures { IfOk result
+        (λ values. map (λ v. v.now) values.items ≡ values_in (rows_of (found_of inner.now))) }
 {
-    let Some(desk) = one(inner) else {
-        return Ok(None);
-    };
-    Ok(Some(Request::Texts(desk, given_texts(alloc, inner)?)))
+    let mut values = Vec::new(alloc);
+    for place in PLACES {
+        add_values(&mut values, values_at(inner, place))?;
+    }
+    Ok(values)
+}
+
+/// The value of an option, if it is given.
+#[tactic(auto, using(crate::proofs::Rows::first_rows))]
+fn option_at<'a>(inner: &ArgMatches<'a>, name: &str) -> Option<&'a str>
+    ensures { option_map (λ s. s.now) result ≡ first_of name.now (rows_of (found_of inner.now)) }
+{
+    inner.get_str(name)
+}
+
+/// The file of refused texts, if one is named.
+fn refused_of<'a>(inner: &ArgMatches<'a>) -> Option<&'a str>
+    ensures { option_map (λ s. s.now) result
+        ≡ first_of (codes "refused") (rows_of (found_of inner.now)) }
+{
+    option_at(inner, "refused")
 }
 
 /// Whether an option without a value is given.
 fn is_given(inner: &ArgMatches<'_>, name: &str) -> bool
     ensures { result ≡ is_given name.now (rows_of (found_of inner.now)) }
 {
-    match value_at(inner, name) {
-        Some(text) => text == "true",
-        None => false,
-    }
+    option_at(inner, name) == Some("true")
 }
 
 /// Which of the options of `list` are given.
@@ -236,15 +262,17 @@ fn form_of(inner: &ArgMatches<'_>) -> ListForm
     }
 }
 
-/// The request that the matches of `list` make.
-fn listing<'a>(alloc: Global, inner: &ArgMatches<'a>) -> Result<Option<Request<'a>>, AllocError>
-    ensures { IfOk result (λ r. option_map line_of r ≡ with_form (rows_of (found_of inner.now))) }
+/// The request of the command with this name that these values and options make.
+fn make<'a>(
+    alloc: Global,
+    name: &str,
+    inner: &ArgMatches<'a>,
+    values: &[&'a str],
+) -> Result<Option<Request<'a>>, AllocError>
+    ensures { IfOk result (λ r. option_map line_of r
+        ≡ line_from name.now (rows_of (found_of inner.now)) (map (λ v. v.now) values.now)) }
 {
-    let Some(file) = one(inner) else {
-        return Ok(None);
-    };
-    let form = form_of(inner);
-    Ok(Some(Request::List(form, file, given_texts(alloc, inner)?)))
+    commands!(request_of of (name, (alloc, inner, values)))
 }
 
 /// The request that a subcommand's matches make.
@@ -256,73 +284,8 @@ fn read<'a>(
     ensures { IfOk result
         (λ r. option_map line_of r ≡ line_at name.now (rows_of (found_of inner.now))) }
 {
-    match name {
-        "check" => Ok(one(inner).map(Request::Check)),
-        "problems" => Ok(one(inner).map(Request::Problems)),
-        "tidy" => Ok(one(inner).map(Request::Tidy)),
-        "explain" => Ok(one(inner).map(Request::Explain)),
-        "start" => Ok(three(inner).map(|(a, b, c)| Request::Start(a, b, c))),
-        "rehearse" => Ok(three(inner).map(|(a, b, c)| Request::Rehearse(a, b, c))),
-        _ => on_desk(alloc, name, inner),
-    }
-}
-
-/// The request on a desk, or one that looks at a desk or a timetable.
-fn on_desk<'a>(
-    alloc: Global,
-    name: &str,
-    inner: &ArgMatches<'a>,
-) -> Result<Option<Request<'a>>, AllocError>
-    ensures { IfOk result
-        (λ r. option_map line_of r ≡ desk_line_at name.now (rows_of (found_of inner.now))) }
-{
-    match name {
-        "take" => taking(alloc, inner),
-        "receive" => receiving(alloc, inner),
-        "merge" => Ok(three(inner).map(|(a, b, c)| Request::Merge(a, b, c))),
-        "withdraw" => withdrawing(alloc, inner),
-        "export" => Ok(one(inner).map(Request::Export)),
-        _ => whole_view(alloc, name, inner),
-    }
-}
-
-/// The request that looks at all that a desk or a timetable has, at two timetables, or at dates or
-/// flights.
-fn whole_view<'a>(
-    alloc: Global,
-    name: &str,
-    inner: &ArgMatches<'a>,
-) -> Result<Option<Request<'a>>, AllocError>
-    ensures { IfOk result
-        (λ r. option_map line_of r ≡ whole_view_at name.now (rows_of (found_of inner.now))) }
-{
-    match name {
-        "page" => Ok(one(inner).map(Request::Page)),
-        "diff" => Ok(two(inner).map(|(a, b)| Request::Diff(a, b))),
-        "publish" => Ok(four(inner).map(|(a, b, c, d)| Request::Publish(a, b, c, d))),
-        "texts" => showing_texts(alloc, inner),
-        "findings" => Ok(one(inner).map(Request::Findings)),
-        _ => view(alloc, name, inner),
-    }
-}
-
-/// The request that looks at dates or flights.
-fn view<'a>(
-    alloc: Global,
-    name: &str,
-    inner: &ArgMatches<'a>,
-) -> Result<Option<Request<'a>>, AllocError>
-    ensures { IfOk result
-        (λ r. option_map line_of r ≡ view_at name.now (rows_of (found_of inner.now))) }
-{
-    match name {
-        "show" => Ok(three(inner).map(|(a, b, c)| Request::Show(a, b, c))),
-        "history" => Ok(three(inner).map(|(a, b, c)| Request::History(a, b, c))),
-        "board" => Ok(three(inner).map(|(a, b, c)| Request::Board(a, b, c))),
-        "list" => listing(alloc, inner),
-        "calendar" => Ok(two(inner).map(|(a, b)| Request::Calendar(a, b))),
-        _ => Ok(None),
-    }
+    let values = values_in(alloc, inner)?;
+    make(alloc, name, inner, &values)
 }
 
 /// The request that the words make, the first of which is the program's name.
@@ -337,7 +300,7 @@ pub fn parse<'a>(alloc: Global, words: &'a [&'a str]) -> Result<Request<'a>, Lin
     ensures named { IfOk result (λ r. Names (map (λ w. w.now) words.entry.now) (line_of r)) }
     ensures fault { IfErr result (IsFaultOf (map (λ w. w.now) words.entry.now)) }
 {
-    let Ok(program) = command(alloc) else {
+    let Ok(program) = program(alloc) else {
         return Err(LineFault::Memory);
     };
     let matches = match program.try_get_matches_from(words) {

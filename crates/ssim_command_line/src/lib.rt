@@ -7,7 +7,7 @@
 #![tactic(auto)]
 
 mod command_line;
-mod commands;
-mod help;
+mod program;
+mod table;
 
 pub use command_line::{LineFault, ListForm, Request, parse};

@@ -223,41 +223,69 @@ fn act<S: Store, O: Write>(
         (world (S.files store.new) (S.failures store.new) out.new) result }
 {
     match request {
-        Request::Tidy(name) => tidy(alloc, name, store, out),
-        Request::Take(desk, name, texts) => take(alloc, desk, name, texts, store, out),
-        Request::Receive(refused, desk, name, texts) => {
-            receive(alloc, *refused, desk, name, texts, store, out)
-        }
-        Request::Export(desk) => export(alloc, desk, store, out),
-        Request::Check(name) => print(check(alloc, name, store), out),
-        Request::Problems(name) => print(problems(alloc, name, store), out),
-        Request::Start(dataset, stations, name) => {
-            print(start(alloc, dataset, stations, name, store), out)
-        }
-        Request::Merge(desk, other, name) => print(merge(alloc, desk, other, name, store), out),
-        Request::Withdraw(desk, name, references) => {
-            print(withdraw(alloc, desk, name, references, store), out)
-        }
-        Request::Texts(desk, flights) => print(texts(alloc, desk, flights, store), out),
-        Request::Show(desk, flight, date) => {
+        Request::Tidy { dataset: name } => tidy(alloc, name, store, out),
+        Request::Take {
+            desk,
+            out: name,
+            texts,
+        } => take(alloc, desk, name, texts, store, out),
+        Request::Receive {
+            refused,
+            desk,
+            out: name,
+            texts,
+        } => { receive(alloc, *refused, desk, name, texts, store, out) }
+        Request::Export { desk } => export(alloc, desk, store, out),
+        Request::Check { dataset: name } => print(check(alloc, name, store), out),
+        Request::Problems { dataset: name } => print(problems(alloc, name, store), out),
+        Request::Start {
+            dataset,
+            stations,
+            out: name,
+        } => { print(start(alloc, dataset, stations, name, store), out) }
+        Request::Merge {
+            desk,
+            other,
+            out: name,
+        } => print(merge(alloc, desk, other, name, store), out),
+        Request::Withdraw {
+            desk,
+            out: name,
+            references,
+        } => { print(withdraw(alloc, desk, name, references, store), out) }
+        Request::Texts { desk, flights } => print(texts(alloc, desk, flights, store), out),
+        Request::Show { desk, flight, date } => {
             print(show_flight(alloc, desk, flight, date, store), out)
         }
-        Request::History(desk, flight, date) => {
+        Request::History { desk, flight, date } => {
             print(history(alloc, desk, flight, date, store), out)
         }
-        Request::Board(file, station, date) => print(board(alloc, file, station, date, store), out),
-        Request::List(form, file, flights) => print(list(alloc, *form, file, flights, store), out),
-        Request::Calendar(file, flight) => print(calendar(alloc, file, flight, store), out),
-        Request::Page(file) => print(page(alloc, file, store), out),
-        Request::Diff(from, to) => print(diff(alloc, from, to, store), out),
-        Request::Publish(from, to, reference, name) => {
-            print(publish(alloc, from, to, reference, name, store), out)
-        }
-        Request::Findings(desk) => print(findings(alloc, desk, store), out),
-        Request::Rehearse(dataset, stations, script) => {
-            print(rehearse(alloc, dataset, stations, script, store), out)
-        }
-        Request::Explain(word) => print(explain(alloc, word, store), out),
+        Request::Board {
+            file,
+            station,
+            date,
+        } => print(board(alloc, file, station, date, store), out),
+        Request::List {
+            form,
+            file,
+            flights,
+        } => print(list(alloc, *form, file, flights, store), out),
+        Request::Calendar { file, flight } => print(calendar(alloc, file, flight, store), out),
+        Request::Page { file } => print(page(alloc, file, store), out),
+        Request::Diff { from, to } => print(diff(alloc, from, to, store), out),
+        Request::Publish {
+            from,
+            to,
+            reference,
+            out: name,
+        } => { print(publish(alloc, from, to, reference, name, store), out) }
+        Request::Findings { desk } => print(findings(alloc, desk, store), out),
+        Request::Rehearse {
+            dataset,
+            stations,
+            script,
+        } => { print(rehearse(alloc, dataset, stations, script, store), out) }
+        Request::Explain { word } => print(explain(alloc, word, store), out),
     }
 }
 

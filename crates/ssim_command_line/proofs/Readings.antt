@@ -1,0 +1,264 @@
+-- What each command of the table makes of plain values: no fault, and the line that they spell.
+use Rattle.std.proofs.Common.{◌≡◌, ◌∙◌, true, false, refl, sym, ap, List, [], ◌∷◌, ◌++◌, Option, Some, None}
+use Rattle.std.proofs.Common.{append-nil, append_assoc, codes, is_some, true≢false}
+use Rattle.std.specs.List.{fold}
+use Rattle.clap.specs.Kinds.{Kinds}
+use Rattle.clap.specs.Simple.{Shape, built_leaf, filled, inherited, marked_built, with_leaf_noted}
+use Rattle.clap.specs.Walk.{Row, Rule, Walk, first_of, nothing_held, positional, reading_by, settled, walk_from}
+use Rattle.clap.specs.declared.parser.matches.ValueSource.TheVariants.{CommandLine}
+use Rattle.clap.proofs.OnLiterals.{clap_on_literals}
+use Rattle.ssim_command_line.specs.Line.{Command, Line, Text, any_texts, command, four, four_values}
+use Rattle.ssim_command_line.specs.Line.{one, one_and_texts, one_value, three, three_values, two, two_and_texts}
+use Rattle.ssim_command_line.specs.Line.{flag, form_of, optional, several_texts, two_values, values_in}
+use Rattle.ssim_command_line.specs.Line.{Board, Calendar, Check, Diff, Explain, Export, Findings, History, Listing}
+use Rattle.ssim_command_line.specs.Line.{Merge, Page, Problems, Publish, Receive, Rehearse, Show, Start, Take, Texts}
+use Rattle.ssim_command_line.specs.Line.{Tidy, Withdraw}
+use Rattle.ssim_command_line.specs.Usage.{bare_program, leaf}
+use Rattle.ssim_command_line.proofs.PlainWords.{Outcome, outcome, plain_walked, step_at}
+
+-- a command as the program builds it
+abbrev above : Shape
+above = with_leaf_noted (record (marked_built bare_program.top) { is_leaf = false })
+
+abbrev pub shape : Command → Shape
+shape c = built_leaf (inherited above (leaf c.name c.words))
+
+-- the faults, and the line of the rows
+abbrev Reading : Type 0
+Reading = Kinds × Option Line
+
+abbrev pub read_of : Command → Outcome → Reading
+read_of c o = (o.0, c.make o.1 (values_in o.1))
+
+-- what is read of these faults and of the words from a walk on
+abbrev reads : Command → Kinds → Walk → List Text → Reading
+reads c k w words = read_of c (outcome (shape c) k w words)
+
+abbrev start : Walk
+start = walk_from nothing_held
+
+-- the command reads these values without a fault, as the line that they make
+abbrev Reads : Command → List Text → Type 0
+Reads c values = reads c [] start values ≡ ([], c.make [] values)
+
+-- the command reads the values that make a line so
+abbrev pub IsReader : Command → Type 0
+IsReader c = (values : List Text) → is_some (c.make [] values) ≡ true → Reads c values
+
+-- a row of the table, and that it reads its values so
+pub record Reader : Type 0 where
+  pub row : Command
+  pub reads : IsReader row
+
+-- ---- values
+
+abbrev pub by : Text → List Rule → (List Row → List Text → Option Line) → Command
+by name words make = record { name = name; words = words; make = make }
+
+no_line : {X : Type 0} → false ≡ true → X
+no_line e = absurd (true≢false (sym e))
+
+one_reader : (name : Text) (words : List Rule) (make : List Row → Text → Line)
+    → ((a : Text) → Reads (by name words (λ rows. one (make rows))) (a ∷ []))
+    → IsReader (by name words (λ rows. one (make rows)))
+one_reader name words make r [] e = no_line e
+one_reader name words make r (a ∷ []) e = r a
+one_reader name words make r (a ∷ b ∷ rest) e = no_line e
+
+two_reader : (name : Text) (words : List Rule) (make : List Row → Text → Text → Line)
+    → ((a b : Text) → Reads (by name words (λ rows. two (make rows))) (a ∷ b ∷ []))
+    → IsReader (by name words (λ rows. two (make rows)))
+two_reader name words make r [] e = no_line e
+two_reader name words make r (a ∷ []) e = no_line e
+two_reader name words make r (a ∷ b ∷ []) e = r a b
+two_reader name words make r (a ∷ b ∷ d ∷ rest) e = no_line e
+
+three_reader : (name : Text) (words : List Rule) (make : List Row → Text → Text → Text → Line)
+    → ((a b d : Text) → Reads (by name words (λ rows. three (make rows))) (a ∷ b ∷ d ∷ []))
+    → IsReader (by name words (λ rows. three (make rows)))
+three_reader name words make r [] e = no_line e
+three_reader name words make r (a ∷ []) e = no_line e
+three_reader name words make r (a ∷ b ∷ []) e = no_line e
+three_reader name words make r (a ∷ b ∷ d ∷ []) e = r a b d
+three_reader name words make r (a ∷ b ∷ d ∷ f ∷ rest) e = no_line e
+
+four_reader : (name : Text) (words : List Rule) (make : List Row → Text → Text → Text → Text → Line)
+    → ((a b d f : Text) → Reads (by name words (λ rows. four (make rows))) (a ∷ b ∷ d ∷ f ∷ []))
+    → IsReader (by name words (λ rows. four (make rows)))
+four_reader name words make r [] e = no_line e
+four_reader name words make r (a ∷ []) e = no_line e
+four_reader name words make r (a ∷ b ∷ []) e = no_line e
+four_reader name words make r (a ∷ b ∷ d ∷ []) e = no_line e
+four_reader name words make r (a ∷ b ∷ d ∷ f ∷ []) e = r a b d f
+four_reader name words make r (a ∷ b ∷ d ∷ f ∷ g ∷ rest) e = no_line e
+
+-- ---- texts after the values, which all go to one positional
+
+-- the walk after the texts `seen`, which are used, and t, which is pending
+abbrev after_texts : Shape → Walk → List Text → Text → Walk
+after_texts s w [] t = plain_walked s w t
+after_texts s w (x ∷ seen) t = record {
+  held = record {
+    rows = (settled s.rules w.held).rows ++ (record {
+      id = codes "texts";
+      values = x ∷ seen;
+      count = None;
+      source = Some CommandLine;
+      reading = reading_by (filled any_texts);
+    }) ∷ [];
+    pending = Some (codes "texts", t ∷ []);
+    skip = 0;
+  };
+  waiting = positional;
+  position = w.position;
+  is_trailing = false;
+  stopped = None;
+}
+
+-- after these texts the next is taken, too, and the words may end
+abbrev TakesNext : Command → Walk → (List Text → Option Line) → List Text → Type 0
+TakesNext c w make seen = (t u : Text) →
+    let here : Walk = after_texts (shape c) w seen t in
+    let now : Kinds × Walk × Reading = (step_at (shape c) here, plain_walked (shape c) here u, reads c [] here []) in
+    now ≡ ([], after_texts (shape c) w (seen ++ t ∷ []) u, ([], make ((seen ++ t ∷ []) ++ [])))
+
+module _ (c : Command) (w : Walk) (make : List Text → Option Line)
+    (first : TakesNext c w make []) (later : (x : Text) (seen : List Text) → TakesNext c w make (x ∷ seen)) where
+  next : (seen : List Text) → TakesNext c w make seen
+  next [] = first
+  next (x ∷ seen) = later x seen
+
+  texts_read : (seen : List Text) (t : Text) (rest : List Text)
+      → reads c [] (after_texts (shape c) w seen t) rest ≡ ([], make (seen ++ t ∷ rest))
+  texts_read seen t [] =
+      ap (λ (x : Kinds × Walk × Reading). x.2) (next seen t t)
+      ∙ ap (λ (ts : List Text). ([], make ts)) (append-nil (seen ++ t ∷ []))
+  texts_read seen t (u ∷ rest) =
+      ap (λ (x : Kinds × Walk × Reading). reads c x.0 x.1 rest) (next seen t u)
+      ∙ texts_read (seen ++ t ∷ []) u rest
+      ∙ ap (λ (ts : List Text). ([], make ts)) (append_assoc seen (t ∷ []) (u ∷ rest))
+
+abbrev after_values : Command → List Text → Walk
+after_values c values = fold (plain_walked (shape c)) start values
+
+-- the command takes texts after these values
+record TakesTexts (c : Command) (values : List Text) (make : List Text → Option Line) : Type 0 where
+  enter : (t : Text) (rest : List Text)
+      → reads c [] start (values ++ t ∷ rest) ≡ reads c [] (after_texts (shape c) (after_values c values) [] t) rest
+  first : TakesNext c (after_values c values) make []
+  later : (x : Text) (seen : List Text) → TakesNext c (after_values c values) make (x ∷ seen)
+
+taken : {c : Command} {values : List Text} {make : List Text → Option Line} → TakesTexts c values make
+    → (t : Text) (rest : List Text) → reads c [] start (values ++ t ∷ rest) ≡ ([], make (t ∷ rest))
+taken {c} {values} {make} takes t rest =
+    takes.enter t rest ∙ texts_read c (after_values c values) make takes.first takes.later [] t rest
+
+texts_reader : (name : Text) (words : List Rule) (make : List Row → Text → List Text → Line)
+    → (let c = by name words (λ rows. one_and_texts (make rows)) in
+    (a : Text) → Reads c (a ∷ []) × TakesTexts c (a ∷ []) (λ texts. Some (make [] a texts)))
+    → IsReader (by name words (λ rows. one_and_texts (make rows)))
+texts_reader name words make r [] e = no_line e
+texts_reader name words make r (a ∷ []) e = (r a).0
+texts_reader name words make r (a ∷ t ∷ rest) e = taken (r a).1 t rest
+
+several_reader : (name : Text) (words : List Rule) (make : List Row → Text → Text → List Text → Line)
+    → (let c = by name words (λ rows. two_and_texts (make rows)) in
+    (a b : Text) → TakesTexts c (a ∷ b ∷ []) (λ texts. Some (make [] a b texts)))
+    → IsReader (by name words (λ rows. two_and_texts (make rows)))
+several_reader name words make r [] e = no_line e
+several_reader name words make r (a ∷ []) e = no_line e
+several_reader name words make r (a ∷ b ∷ []) e = no_line e
+several_reader name words make r (a ∷ b ∷ t ∷ rest) e = taken (r a b) t rest
+
+-- ---- the commands
+
+module _ (name : Text) where
+  pub one_plain : (make : Text → Line) → IsReader (command name one_value (one make))
+  unfolding clap_on_literals
+  one_plain make = one_reader name one_value (λ rows. make) (λ a. refl)
+
+  pub two_plain : (make : Text → Text → Line) → IsReader (command name two_values (two make))
+  unfolding clap_on_literals
+  two_plain make = two_reader name two_values (λ rows. make) (λ a b. refl)
+
+  pub three_plain : (make : Text → Text → Text → Line) → IsReader (command name three_values (three make))
+  unfolding clap_on_literals
+  three_plain make = three_reader name three_values (λ rows. make) (λ a b d. refl)
+
+  pub four_plain : (make : Text → Text → Text → Text → Line) → IsReader (command name four_values (four make))
+  unfolding clap_on_literals
+  four_plain make = four_reader name four_values (λ rows. make) (λ a b d f. refl)
+
+  pub several_plain : (make : Text → Text → List Text → Line)
+      → IsReader (command name (two_values ++ several_texts ∷ []) (two_and_texts make))
+  unfolding clap_on_literals
+  several_plain make = several_reader name (two_values ++ several_texts ∷ []) (λ rows. make)
+      (λ a b. record { enter = λ t rest. refl; first = λ t u. refl; later = λ x seen t u. refl })
+
+-- the rows of the table with options, or any number of texts
+abbrev pub receive_row : Command
+receive_row = by (codes "receive") (two_values ++ several_texts ∷ optional (codes "refused") ∷ [])
+    (λ rows. two_and_texts (Receive (first_of (codes "refused") rows)))
+
+abbrev pub texts_row : Command
+texts_row = command (codes "texts") (one_value ++ any_texts ∷ []) (one_and_texts Texts)
+
+abbrev pub list_row : Command
+list_row = by (codes "list") (one_value ++ any_texts ∷ flag (codes "csv") ∷ flag (codes "dates") ∷ [])
+    (λ rows. one_and_texts (Listing (form_of rows)))
+
+pub receive_read : IsReader receive_row
+unfolding clap_on_literals
+receive_read = several_reader receive_row.name receive_row.words (λ rows. Receive (first_of (codes "refused") rows))
+    (λ a b. record { enter = λ t rest. refl; first = λ t u. refl; later = λ x seen t u. refl })
+
+pub texts_read_by : IsReader texts_row
+unfolding clap_on_literals
+texts_read_by = texts_reader texts_row.name texts_row.words (λ rows. Texts)
+    (λ a. (refl, record { enter = λ t rest. refl; first = λ t u. refl; later = λ x seen t u. refl }))
+
+pub list_read : IsReader list_row
+unfolding clap_on_literals
+list_read = texts_reader list_row.name list_row.words (λ rows. Listing (form_of rows))
+    (λ a. (refl, record { enter = λ t rest. refl; first = λ t u. refl; later = λ x seen t u. refl }))
+
+abbrev pub with_one : Text → (Text → Line) → Reader
+with_one name make = record { row = command name one_value (one make); reads = one_plain name make }
+
+abbrev pub with_three : Text → (Text → Text → Text → Line) → Reader
+with_three name make = record { row = command name three_values (three make); reads = three_plain name make }
+
+abbrev pub with_two : Text → (Text → Text → Line) → Reader
+with_two name make = record { row = command name two_values (two make); reads = two_plain name make }
+
+abbrev pub with_several : Text → (Text → Text → List Text → Line) → Reader
+with_several name make = record {
+  row = command name (two_values ++ several_texts ∷ []) (two_and_texts make);
+  reads = several_plain name make;
+}
+
+-- all the rows of the table
+abbrev pub readers : List Reader
+readers =
+    with_one (codes "check") Check
+    ∷ with_one (codes "problems") Problems
+    ∷ with_one (codes "tidy") Tidy
+    ∷ with_three (codes "start") Start
+    ∷ with_several (codes "take") Take
+    ∷ record { row = receive_row; reads = receive_read }
+    ∷ with_three (codes "merge") Merge
+    ∷ record { row = texts_row; reads = texts_read_by }
+    ∷ with_several (codes "withdraw") Withdraw
+    ∷ with_three (codes "show") Show
+    ∷ with_three (codes "history") History
+    ∷ record { row = list_row; reads = list_read }
+    ∷ with_three (codes "board") Board
+    ∷ with_two (codes "calendar") Calendar
+    ∷ with_two (codes "diff") Diff
+    ∷ record { row = command (codes "publish") four_values (four Publish); reads = four_plain (codes "publish") Publish }
+    ∷ with_one (codes "page") Page
+    ∷ with_one (codes "findings") Findings
+    ∷ with_one (codes "export") Export
+    ∷ with_three (codes "rehearse") Rehearse
+    ∷ with_one (codes "explain") Explain
+    ∷ []
