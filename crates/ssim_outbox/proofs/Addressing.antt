@@ -24,7 +24,8 @@ use Rattle.ssim_outbox.specs.Order.{Follows, RefusesOrder}
 use Rattle.ssim_outbox.specs.Publication.{IsFirstReference, IsHeading, BeginAt, RefusesPublication}
 use Rattle.ssim_outbox.specs.declared.fault.OutboxFault.{OutboxFault}
 use Rattle.ssim_outbox.specs.declared.fault.OutboxFault.TheVariants as fault
-use Rattle.ssim_outbox.specs.internal.Addressed.{HasReference, IsAddressed, RefusesCarriers, RefusesDate, date_refused}
+use Rattle.ssim_outbox.specs.Comparable.{RefusesCarriers}
+use Rattle.ssim_outbox.specs.internal.Addressed.{HasReference, IsAddressed, RefusesDate, date_refused}
 use Rattle.ssim_outbox.specs.internal.Headings.{RefusesWord, cancellation}
 
 -- ---- the carrier record of a base

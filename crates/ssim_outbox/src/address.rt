@@ -5,7 +5,8 @@ ghost use Rattle.ssim_base.specs.ReadBack.{HasFrame};
 ghost use Rattle.ssim_records.specs.declared.record.Record.{Record};
 ghost use Rattle.ssim_outbox.specs.Publication.{RefusesPublication};
 ghost use Rattle.ssim_outbox.specs.internal.Addressed.{HasReference, IsAddressed};
-ghost use Rattle.ssim_outbox.specs.internal.Addressed.{RefusesCarriers, RefusesDate};
+ghost use Rattle.ssim_outbox.specs.Comparable.{RefusesCarriers};
+ghost use Rattle.ssim_outbox.specs.internal.Addressed.{RefusesDate};
 ghost use Rattle.ssim_outbox.specs.internal.Addressed.{date_refused};
 ghost use Rattle.ssim_outbox.specs.internal.Headings.{cancellation};
 
@@ -49,8 +50,9 @@ pub(crate) fn address_of(
     }
 }
 
-// Whether two carrier records have the same airline and the same time mode.
-fn compare(mine: &Carrier, theirs: &Carrier) -> Result<(), OutboxFault>
+/// Whether two carrier records have the same airline (else 41) and the same time mode (else 40). Only
+/// the timetables of such data sets are compared.
+pub fn compare(mine: &Carrier, theirs: &Carrier) -> Result<(), OutboxFault>
     ensures airline { OnOk result (theirs.now.airline ≡ mine.now.airline) }
     ensures mode { OnOk result (theirs.now.time_mode ≡ mine.now.time_mode) }
     ensures err { IfErr result (RefusesCarriers mine.now theirs.now) }

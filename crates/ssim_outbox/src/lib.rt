@@ -3,6 +3,7 @@
 //!
 //! - [`publish`]: the file of these messages, and the lines that say which they are and what they
 //!   leave unsaid, as [`Published`]; or an [`OutboxFault`].
+//! - [`compare`]: whether two data sets are of one airline and one time mode.
 //! - [`dated_sub`]: a sub-message with full dates, which a text can have under a heading.
 //! - [`messages_of`]: the messages with a heading that have given sub-messages, in order, as many
 //!   in each as a text can have.
@@ -45,6 +46,7 @@ mod publication;
 mod publication_lines;
 mod send_fault;
 
+pub use address::compare;
 pub use delivery::deliver;
 pub use fault::OutboxFault;
 pub use full_dates::dated_sub;

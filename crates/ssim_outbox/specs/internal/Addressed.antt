@@ -1,5 +1,5 @@
 -- Messages that are addressed to a desk, before they are made.
-use Rattle.std.specs.Prelude.{◌≡◌, ◌≢◌, ◌⊎◌, ℕ, ◌<◌, List}
+use Rattle.std.specs.Prelude.{◌≡◌, ◌⊎◌, ℕ, ◌<◌, List}
 use Rattle.std.specs.List.{AllByRecursion}
 use Rattle.ssim_values.specs.Flight.{FlightNumber, IsFlight}
 use Rattle.ssim_periods.specs.Calendar.{day_count}
@@ -31,13 +31,6 @@ pub record HasReference (carrier : CarrierFields) (m : MessageValue)
   pub text : ResolvedText
   pub resolves : Resolves carrier m text
   pub reference_is : reference ≡ text.reference
-
--- why two desks cannot be compared, by their carrier records
-abbrev pub RefusesCarriers : CarrierFields → CarrierFields → OutboxFault → Type 0
-RefusesCarriers mine theirs refusal =
-    ((refusal ≡ fault.OtherAirline) × (theirs.airline ≢ mine.airline))
-    ⊎ ((refusal ≡ fault.OtherMode) × (theirs.airline ≡ mine.airline)
-    × (theirs.time_mode ≢ mine.time_mode))
 
 -- the fault of a heading that does not resolve, of which only the date can be refused
 abbrev pub date_refused : ResolveFault → OutboxFault
