@@ -117,7 +117,8 @@ def differences(rng, run, season, old, new):
     """What is wrong with the answers on a pair."""
     if (old.airline, old.mode) != (new.airline, new.mode):
         status, out, err = run("diff", "FROM", "TO")
-        return [] if (status, out) == (1, b"") and err.startswith("refused 61 ") else [f"diff: {status} {err!r}"]
+        number = "41 Airline" if old.airline != new.airline else "40 TimeMode"
+        return [] if (status, out) == (1, b"") and err == f"refused {number} sub 0\n" else [f"diff: {status} {err!r}"]
     found = compared(run, ["diff", "FROM", "TO"], differing(old, new))
     flights = sorted(set(old.flights) | set(new.flights) | {(1, " ")})
     for options, lines in OPTIONS.items():

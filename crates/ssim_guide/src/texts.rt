@@ -147,12 +147,12 @@ const TABLE: [Explanation; 43] = [
     },
     Explanation {
         number: 40,
-        meaning: "the text has the other time mode than the data set. For publish TO has the other one than FROM",
+        meaning: "the text has the other time mode than the data set. For publish and diff TO has the other one than FROM",
         remedy: "ask for the message in the data set's time mode",
     },
     Explanation {
         number: 41,
-        meaning: "the flight is another airline's; 0 for the flight of a command. For publish TO is another airline's than FROM",
+        meaning: "the flight is another airline's; 0 for the flight of a command. For publish and diff TO is another airline's than FROM",
         remedy: "send the message to that airline's desk",
     },
     Explanation {
@@ -187,8 +187,8 @@ const TABLE: [Explanation; 43] = [
     },
     Explanation {
         number: 61,
-        meaning: "the two desks have different data sets or station tables. For diff the airlines or time modes differ",
-        remedy: "merge desks of one season, and compare timetables of one airline",
+        meaning: "the two desks have different data sets or station tables",
+        remedy: "merge desks of one season",
     },
     Explanation {
         number: 62,

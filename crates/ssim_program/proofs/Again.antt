@@ -1,5 +1,5 @@
 -- A file that is the export of its own base is read as that base, so the base's export is the file.
-use Rattle.std.proofs.Common.{◌≡◌, ◌∙◌, ◌⊎◌, ℕ, Bool, true, false, true≢false, List, [], Option, Some, Result, Ok, Err, inl, inr, sym, ap, subst}
+use Rattle.std.proofs.Common.{◌≡◌, ◌∙◌, ◌⊎◌, ℕ, Bool, true, false, true≢false, List, [], ◌∷◌, Option, Some, Result, Ok, Err, inl, inr, sym, ap, subst}
 use Rattle.ssim_values.specs.Flight.{FlightNumber}
 use Rattle.ssim_records.specs.Carrier.{CarrierFields}
 use Rattle.ssim_records.specs.Device.{Writer}
@@ -15,6 +15,7 @@ use Rattle.ssim_base.specs.Reading.{FailedReader, IsReadAs, IsReadBack, IsReadOf
 use Rattle.ssim_base.specs.Timetable.{Days, days_of}
 use Rattle.ssim_base.specs.declared.note.Note.{Note}
 use Rattle.ssim_base.proofs.FrameLemmas.{first-is, last-is, second-is}
+use Rattle.ssim_program.specs.Acts.{Print}
 use Rattle.ssim_program.specs.Again.{GrowsByItself, ReadsAsItself, TidiesOnce}
 use Rattle.ssim_program.specs.Made.{IsExport, IsExportOf, file_limit}
 
@@ -72,13 +73,12 @@ as_itself base notes again bytes own export (inl e) =
 as_itself base notes again bytes own export (inr f) = absurd (true≢false (ap is_read f.1))
 
 pub tidied_once : IsReadBack → TidiesOnce
-tidied_once law all name bytes again kept own is fits made =
-    let base = made.0 in
-    let notes = made.1 in
-    let opened = made.2.1 in
-    let left : made.2.0 ≡ Some bytes = opened.2 ∙ sym opened.1 ∙ is in
-    let read : IsReadAs file_limit bytes (Ok (base, notes)) = subst (λ (o : Option (List ℕ)). IsReadOf file_limit o (Ok (base, notes))) left made.2.2.0 in
-    as_itself base notes again bytes own made.3 (law bytes own.count own.records own.base [] file_limit (read_as base notes) own.read own.is_base fits read)
+tidied_once law all name bytes acts own is fits (set, read, (again, export, are)) =
+    let opened = read.1 in
+    let left : read.0 ≡ Some bytes = opened.2 ∙ sym opened.1 ∙ is in
+    let whole : IsReadAs file_limit bytes (Ok (set.0, set.1)) = subst (λ (o : Option (List ℕ)). IsReadOf file_limit o (Ok (set.0, set.1))) left read.2.0 in
+    are ∙ ap (λ (bs : List ℕ). Print bs ∷ [])
+    (as_itself set.0 set.1 again bytes own export (law bytes own.count own.records own.base [] file_limit (read_as set.0 set.1) own.read own.is_base fits whole))
 
 -- ---- what was exported
 

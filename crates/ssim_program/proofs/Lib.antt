@@ -1,13 +1,12 @@
 pub mod Printers
-pub mod Doing
-pub mod Exporting
+pub mod Acting
 pub mod Again
-pub mod Texts
-pub mod Received
-pub mod Keeping
-pub mod Holding
-pub mod SameFile
+pub mod Exporting
+pub mod Taking
+pub mod Replying
 pub mod Receiving
+pub mod Received
+pub mod SameFile
 pub mod MessageTexts
 pub mod NamedFlights
 pub mod Opening
@@ -16,8 +15,6 @@ pub mod RefusalTexts
 pub mod Rehearsing
 pub mod Outcomes
 pub mod Scripted
-pub mod Saying
-pub mod Writers
 pub mod Withdrawing
 pub mod Origins
 pub mod SavedDesks
@@ -26,6 +23,5 @@ pub mod Offices
 pub mod Turns
 pub mod Prints
 pub mod Verdict
-pub mod Did
 pub mod FirstProblem
 pub mod Timetables

@@ -1,5 +1,8 @@
 -- The words of flights are read one after another.
-use Rattle.std.proofs.Common.{◌≡◌, ◌⊎◌, ◌∙◌, inr, Result, Ok, Err, IfErr, ◌+◌, ◌<◌, ◌≤◌, ℕ, List, [], ◌∷◌, ◌++◌, length, drop, map, get_or, sym, ap, subst, append_assoc}
+use Rattle.std.specs.List.{slice_get}
+use Rattle.std.specs.Str.{bytes_eq}
+use Rattle.std.proofs.lemmas.Slice.Eq.{bytes_eq-Decides}
+use Rattle.std.proofs.Common.{Bool, true, false, not, refl, zero, suc, Some, is_some, true≢false, ◌≡◌, ◌⊎◌, ◌∙◌, inr, Result, Ok, Err, IfErr, ◌+◌, ◌<◌, ◌≤◌, ℕ, List, [], ◌∷◌, ◌++◌, length, drop, map, get_or, sym, ap, subst, append_assoc}
 use Rattle.std.proofs.lemmas.List.{append-nil, drop-map, drop_all, drop_more}
 use Rattle.ssim_values.specs.Designator.{SpellsDesignator}
 use Rattle.ssim_values.specs.declared.designator.Designator.{Designator}
@@ -7,7 +10,7 @@ use Rattle.ssim_command_line.specs.Line.{Text}
 use Rattle.ssim_values.specs.declared.fault.Fault.{Fault}
 use Rattle.ssim_values.specs.declared.fault.Fault.TheVariants as value_fault
 use Rattle.std.specs.Result.{IsErrAnd}
-use Rattle.ssim_program.specs.Messages.{HasNoFlight, SpellEach}
+use Rattle.ssim_program.specs.Messages.{SpellEach}
 use Rattle.ssim_program.specs.declared.refusal.Refusal.{Refusal}
 use Rattle.ssim_program.specs.declared.refusal.Refusal.TheVariants as refused
 
@@ -36,7 +39,34 @@ pub no_word : {A : Type 0} (f : A → Text) (xs : List A) (i : ℕ) → length x
 no_word f xs i past = drop-map f i xs ∙ ap (map f) (drop_all i xs past)
 
 -- the fault of a word that is no designator, as a refusal
-pub refused_word : {A : Type 0} (words : List Text) (r : Result A Refusal) (fault : Fault) → IsErrAnd r (λ refusal. refusal ≡ refused.Value fault) → fault ≡ value_fault.BadDesignator → HasNoFlight words
-    → IfErr r (λ refusal. (refusal ≡ refused.Memory) ⊎ ((refusal ≡ refused.Value value_fault.BadDesignator) × HasNoFlight words))
+pub refused_word : {A : Type 0} (words : List Text) (r : Result A Refusal) (fault : Fault) → IsErrAnd r (λ refusal. refusal ≡ refused.Value fault) → fault ≡ value_fault.BadDesignator → ((flights : List Designator) → SpellEach words flights → ⊥)
+    → IfErr r (λ refusal. (refusal ≡ refused.Memory) ⊎ ((refusal ≡ refused.Value value_fault.BadDesignator) × ((flights : List Designator) → SpellEach words flights → ⊥)))
 refused_word words (Ok x) fault from is none = tt
 refused_word words (Err refusal) fault from is none = inr (from ∙ ap (λ (f : Fault). refused.Value f) is, none)
+
+-- a word that spells no flight is one of no flights
+pub none_spelled : (words : List Text) (i : ℕ) (word : Text) → slice_get words i ≡ Some word → ((flight : Designator) → SpellsDesignator flight word → ⊥)
+    → (flights : List Designator) → SpellEach words flights → ⊥
+none_spelled [] i word at none flights spelled = true≢false (sym (ap is_some at))
+none_spelled (w ∷ words) i word at none [] spelled = spelled
+none_spelled (w ∷ words) zero word at none (flight ∷ flights) spelled = none flight (subst (SpellsDesignator flight) (some_one w word at) spelled.0)
+  where
+    some_one : (a b : Text) → Some a ≡ Some b → a ≡ b
+    some_one a b e = cc
+none_spelled (w ∷ words) (suc i) word at none (flight ∷ flights) spelled = none_spelled words i word at none flights spelled.1
+
+-- ---- airlines that are compared
+
+flipped : (b c : Bool) → c ≡ not b → c ≡ false → b ≡ true
+flipped true c e h = refl
+flipped false c e h = absurd (true≢false (sym e ∙ h))
+
+differ : (b c : Bool) → c ≡ not b → c ≡ true → b ≡ true → ⊥
+differ true c e h t = true≢false (sym h ∙ e)
+differ false c e h t = true≢false (sym t)
+
+pub equal_bytes : (x y : List ℕ) (apart : Bool) → apart ≡ not (bytes_eq x y) → apart ≡ false → x ≡ y
+equal_bytes x y apart is h = (bytes_eq-Decides x y).0 (flipped (bytes_eq x y) apart is h)
+
+pub other_bytes : (x y : List ℕ) (apart : Bool) → apart ≡ not (bytes_eq x y) → apart ≡ true → x ≡ y → ⊥
+other_bytes x y apart is h same = differ (bytes_eq x y) apart is h ((bytes_eq-Decides x y).1 same)

@@ -20,7 +20,8 @@ use Rattle.ssim_desk.specs.Desk.{take_answer}
 use Rattle.ssim_desk.specs.Deliveries.{is_accepted}
 use Rattle.ssim_desk.specs.declared.steps.Answer.TheVariants.{Merged}
 use Rattle.ssim_command_line.specs.Line.{Text}
-use Rattle.ssim_program.specs.Desks.{ReadsDesk, TakesText, TakesTexts}
+use Rattle.ssim_program.specs.Desks.{ReadsDesk, TakesText}
+use Rattle.ssim_program.specs.internal.Take.{TakesTexts}
 use Rattle.ssim_program.specs.Files.{Files, file_of}
 use Rattle.ssim_program.specs.Made.{file_limit}
 use Rattle.ssim_program.specs.Receiving.{IsAccepted, Receipt, texts_received}

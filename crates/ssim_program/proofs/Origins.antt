@@ -6,17 +6,20 @@ use Rattle.ssim_base.specs.SavedBase.{IsBaseRecords}
 use Rattle.ssim_base.specs.declared.note.Note.{Note}
 use Rattle.ssim_held.specs.Entries.{AreRising, DeskSeen}
 use Rattle.ssim_held.specs.File.{desk_file}
-use Rattle.ssim_program.specs.Desks.{IsMergeOf, ReadsDesk, TakesTexts}
+use Rattle.ssim_program.specs.Acts.{Act, kept_by}
+use Rattle.ssim_program.specs.Desks.{IsMergeOf, ReadsDesk}
+use Rattle.ssim_program.specs.internal.Take.{TakesTexts}
 use Rattle.ssim_program.specs.Files.{Files, Kept, file_of, with_kept}
 use Rattle.ssim_command_line.specs.Line.{Line, Text, Check, Problems, Tidy, Start, Take, Merge, Withdraw}
 use Rattle.ssim_command_line.specs.Line.{Receive, Texts, Show, History, Calendar, Findings, Export}
 use Rattle.ssim_command_line.specs.Line.{Rehearse, Explain, Page, Board, Diff, Publish, Listing}
 use Rattle.ssim_program.specs.Made.{ReadsBase}
-use Rattle.ssim_program.specs.Offices.{Event, Done, Refused, Copied, Came, IsMade, Leaves, Origin, Was}
+use Rattle.ssim_program.specs.Offices.{Event, Done, Refused, Copied, Came, Leaves, Origin, Was}
 use Rattle.ssim_program.specs.Offices.{Started, Took, Merged, Withdrew, Given, origin_of, Received}
 use Rattle.ssim_program.specs.Offices.{IsReceived, TookSome, origin_of_refused}
 use Rattle.ssim_program.specs.Withdrawing.{WithdrawsFrom}
-use Rattle.ssim_program.specs.Receiving.{Receipt, ReceivesEach, file_of_refused, refused_texts}
+use Rattle.ssim_program.specs.Receiving.{Receipt, ReceivesEach, received_files, refused_texts}
+use Rattle.ssim_program.proofs.Taking.{are_taken}
 
 -- what the file of a name is, by where it comes from
 abbrev pub Comes : Origin → Files → Option (List ℕ) → Type 0
@@ -65,79 +68,66 @@ pub same_some : {A : Type 0} (x y : A) → Some x ≡ Some y → x ≡ y
 same_some x y e = cc
 
 -- no file was kept
-unchanged : (name : Text) (kept : Kept) (old new : Files) → kept ≡ [] → Some new ≡ with_kept kept (Some old) → file_of new name ≡ file_of old name
-unchanged name kept old new none is =
+unchanged : (name : Text) (acts : List Act) (old new : Files) → kept_by acts ≡ [] → Some new ≡ with_kept (kept_by acts) (Some old) → file_of new name ≡ file_of old name
+unchanged name acts old new none is =
     ap (λ (all : Files). file_of all name) (same_some new old (is ∙ ap (λ (k : Kept). with_kept k (Some old)) none))
 
 -- a file was kept
-with_file : (out : Text) (bytes : List ℕ) (kept : Kept) (old new : Files) → kept ≡ (out, bytes) ∷ [] → Some new ≡ with_kept kept (Some old) → new ≡ (out, bytes) ∷ old
-with_file out bytes kept old new some is = same_some new ((out, bytes) ∷ old) (is ∙ ap (λ (k : Kept). with_kept k (Some old)) some)
+with_file : (out : Text) (bytes : List ℕ) (acts : List Act) (old new : Files) → kept_by acts ≡ (out, bytes) ∷ [] → Some new ≡ with_kept (kept_by acts) (Some old) → new ≡ (out, bytes) ∷ old
+with_file out bytes acts old new some is = same_some new ((out, bytes) ∷ old) (is ∙ ap (λ (k : Kept). with_kept k (Some old)) some)
 
 -- ---- by the event
 
 done_comes : (line : Line) (old new : Files) (name : Text) → Leaves (Done line) old new → Comes (origin_of (Done line) name) old (file_of new name)
-done_comes (Check file) old new name (printed, kept, makes, is) = unchanged name kept old new makes.4 is
-done_comes (Problems file) old new name (printed, kept, makes, is) = unchanged name kept old new makes.3 is
-done_comes (Tidy file) old new name (printed, kept, makes, is) = unchanged name kept old new makes.4 is
-done_comes (Start dataset stations out) old new name (printed, kept, makes, is) =
-    let bytes = desk_file makes.0 [] in
-    written out name bytes old new (Started dataset stations) (with_file out bytes kept old new makes.5 is) (makes.0, makes.1, makes.2, makes.3, refl)
-done_comes (Take desk out texts) old new name (printed, kept, makes, is) =
-    let after = makes.1 in
-    let bytes = desk_file after.base after.held in
-    written out name bytes old new (Took desk texts) (with_file out bytes kept old new makes.5 is) (makes.0, after, printed, makes.2, makes.3, makes.4, refl)
+done_comes (Tidy file) old new name (acts, (set, read, (bytes, export, are)), whole, is) = unchanged name acts old new (ap kept_by are) is
+done_comes (Export file) old new name (acts, (desk, read, (bytes, export, are)), whole, is) = unchanged name acts old new (ap kept_by are) is
+done_comes (Start dataset stations out) old new name (acts, (_, may, (base, (notes, read), (records, are))), whole, is) =
+    let bytes = desk_file base [] in
+    written out name bytes old new (Started dataset stations) (with_file out bytes acts old new (ap kept_by are) is) (base, notes, read, records, refl)
+done_comes (Take desk out texts) old new name (acts, (_, may, (before, read, takes)), whole, is) =
+    let taken = are_taken (Some old) out texts before acts takes whole in
+    let bytes = desk_file taken.after.base taken.after.held in
+    written out name bytes old new (Took desk texts) (with_file out bytes acts old new taken.is is) (before, taken.after, taken.printed, read, taken.takes, taken.rising, refl)
 done_comes (Receive refused desk out names) old new name leaves = absurd leaves
-done_comes (Merge one other out) old new name (printed, kept, makes, is) =
-    let after = makes.2 in
+done_comes (Merge one other out) old new name (acts, (_, may, (mine, read, (theirs, reads, (after, is_merge, (rising, are))))), whole, is) =
     let bytes = desk_file after.base after.held in
-    written out name bytes old new (Merged one other) (with_file out bytes kept old new makes.8 is) (makes.0, makes.1, after, makes.3, makes.4, makes.5, makes.6, refl)
-done_comes (Withdraw desk out references) old new name (printed, kept, makes, is) =
-    let after = makes.1 in
+    written out name bytes old new (Merged one other) (with_file out bytes acts old new (ap kept_by are) is) (mine, theirs, after, read, reads, is_merge, rising, refl)
+done_comes (Withdraw desk out references) old new name (acts, (_, may, (before, read, (left, withdraws, (rising, are)))), whole, is) =
+    let after = left.0 in
     let bytes = desk_file after.base after.held in
-    written out name bytes old new (Withdrew desk references) (with_file out bytes kept old new makes.5 is) (makes.0, after, printed, makes.2, makes.3, makes.4, refl)
-done_comes (Texts file flights) old new name (printed, kept, makes, is) = unchanged name kept old new makes.3 is
-done_comes (Show file flight date) old new name (printed, kept, makes, is) = unchanged name kept old new makes.3 is
-done_comes (History file flight date) old new name (printed, kept, makes, is) = unchanged name kept old new makes.3 is
-done_comes (Board file station date) old new name (printed, kept, makes, is) = unchanged name kept old new makes.3 is
-done_comes (Listing form file flights) old new name (printed, kept, makes, is) = unchanged name kept old new makes.3 is
-done_comes (Calendar file flight) old new name (printed, kept, makes, is) = unchanged name kept old new makes.3 is
-done_comes (Page file) old new name (printed, kept, makes, is) = unchanged name kept old new makes.3 is
-done_comes (Diff from to) old new name (printed, kept, makes, is) = unchanged name kept old new makes.5 is
+    written out name bytes old new (Withdrew desk references) (with_file out bytes acts old new (ap kept_by are) is) (before, after, left.1, read, withdraws, rising, refl)
 done_comes (Publish from to reference out) old new name leaves = absurd leaves
-done_comes (Findings file) old new name (printed, kept, makes, is) = unchanged name kept old new makes.3 is
-done_comes (Export file) old new name (printed, kept, makes, is) = unchanged name kept old new makes.3 is
-done_comes (Rehearse dataset stations script) old new name (printed, kept, makes, is) = unchanged name kept old new makes.1 is
-done_comes (Explain word) old new name (printed, kept, makes, is) = unchanged name kept old new makes.1 is
+done_comes (Check file) old new name (acts, (bytes, made, are), whole, is) = unchanged name acts old new (ap kept_by are) is
+done_comes (Problems file) old new name (acts, (bytes, made, are), whole, is) = unchanged name acts old new (ap kept_by are) is
+done_comes (Texts file flights) old new name (acts, (bytes, made, are), whole, is) = unchanged name acts old new (ap kept_by are) is
+done_comes (Show file flight date) old new name (acts, (bytes, made, are), whole, is) = unchanged name acts old new (ap kept_by are) is
+done_comes (History file flight date) old new name (acts, (bytes, made, are), whole, is) = unchanged name acts old new (ap kept_by are) is
+done_comes (Board file station date) old new name (acts, (bytes, made, are), whole, is) = unchanged name acts old new (ap kept_by are) is
+done_comes (Listing form file flights) old new name (acts, (bytes, made, are), whole, is) = unchanged name acts old new (ap kept_by are) is
+done_comes (Calendar file flight) old new name (acts, (bytes, made, are), whole, is) = unchanged name acts old new (ap kept_by are) is
+done_comes (Page file) old new name (acts, (bytes, made, are), whole, is) = unchanged name acts old new (ap kept_by are) is
+done_comes (Diff from to) old new name (acts, (bytes, made, are), whole, is) = unchanged name acts old new (ap kept_by are) is
+done_comes (Findings file) old new name (acts, (bytes, made, are), whole, is) = unchanged name acts old new (ap kept_by are) is
+done_comes (Rehearse dataset stations script) old new name (acts, (bytes, made, are), whole, is) = unchanged name acts old new (ap kept_by are) is
+done_comes (Explain word) old new name (acts, (bytes, made, are), whole, is) = unchanged name acts old new (ap kept_by are) is
 
 received_comes : (refused : Option Text) (desk out : Text) (names : List Text) (receipts : List Receipt) (old new : Files) (name : Text) → IsReceived refused desk out names receipts old new
     → Comes (origin_of (Received refused desk out names receipts) name) old (file_of new name)
-received_comes refused desk out names receipts old new name received = by refused received.receives.kept_is
+received_comes refused desk out names receipts old new name (after, (before, reads, (each, rising)), is) = by refused is
   where
-    after : DeskSeen
-    after = received.receives.after
-
     bytes : List ℕ
     bytes = desk_file after.base after.held
 
     desk_comes : Comes (TookSome desk names receipts) old (Some bytes)
-    desk_comes = (
-      received.receives.before,
-      after,
-      received.receives.reads,
-      subst (λ (rs : List Receipt). ReceivesEach (Some old) names received.receives.before rs after) received.receipts_are received.receives.received,
-      received.receives.rising,
-      refl,
-    )
+    desk_comes = (before, after, reads, each, rising, refl)
 
-    by : (r : Option Text) → received.kept ≡ file_of_refused r (refused_texts received.receives.receipts) ++ (out, bytes) ∷ []
+    by : (r : Option Text) → Some new ≡ with_kept (kept_by (received_files r out receipts after)) (Some old)
         → Comes (if bytes_eq out name then TookSome desk names receipts else origin_of_refused r (refused_texts receipts) name) old (file_of new name)
-    by None is = written out name bytes old new (TookSome desk names receipts) (with_file out bytes received.kept old new is received.files) desk_comes
-    by (Some other) is =
+    by None all = written out name bytes old new (TookSome desk names receipts) (same_some new ((out, bytes) ∷ old) all) desk_comes
+    by (Some other) all =
         let texts = refused_texts receipts in
-        let kept : received.kept ≡ (other, texts) ∷ (out, bytes) ∷ [] = is ∙ ap (λ (rs : List Receipt). (other, refused_texts rs) ∷ (out, bytes) ∷ []) received.receipts_are in
         let mid : Files = (other, texts) ∷ old in
-        let all : new ≡ (out, bytes) ∷ mid = same_some new ((out, bytes) ∷ mid) (received.files ∙ ap (λ (k : Kept). with_kept k (Some old)) kept) in
-        written_over out name bytes old mid new (TookSome desk names receipts) (origin_of_refused (Some other) texts name) all desk_comes (written other name texts old mid (Given texts) refl refl)
+        written_over out name bytes old mid new (TookSome desk names receipts) (origin_of_refused (Some other) texts name) (same_some new ((out, bytes) ∷ mid) all) desk_comes (written other name texts old mid (Given texts) refl refl)
 
 pub comes : (event : Event) (old new : Files) (name : Text) → Leaves event old new → Comes (origin_of event name) old (file_of new name)
 comes (Done line) old new name leaves = done_comes line old new name leaves

@@ -20,7 +20,8 @@ use Rattle.ssim_desk.specs.Desk.{days_of_desk, entry_lines}
 use Rattle.ssim_desk.specs.Meaning.{found_by, left_by}
 use Rattle.ssim_command_line.specs.Line.{Text, Texts, Withdraw, Show, History, Board, Calendar}
 use Rattle.ssim_command_line.specs.Line.{Findings, Export, Listing, Problems}
-use Rattle.ssim_program.specs.Desks.{ReadsDesk}
+use Rattle.ssim_program.specs.Acts.{Act, Print, printed_by}
+use Rattle.ssim_program.specs.Desks.{ReadsDesk, flight_date}
 use Rattle.ssim_program.specs.Files.{Files}
 use Rattle.std.specs.List.{flat_map}
 use Rattle.ssim_base.specs.Export.{line}
@@ -28,13 +29,14 @@ use Rattle.ssim_program.specs.Made.{IsExport, file_limit, problem_line}
 use Rattle.ssim_program.specs.print.PrintedLine.{printed_text}
 use Rattle.ssim_program.specs.declared.print.printed_line.PrintedLine.TheVariants as printed_line
 use Rattle.ssim_command_line.specs.declared.command_line.ListForm.{ListForm}
-use Rattle.ssim_program.specs.Listing.{chosen}
-use Rattle.ssim_program.specs.Messages.{SpellEach, message_texts, messages_on}
+use Rattle.ssim_program.specs.Answers.{chosen}
+use Rattle.ssim_program.specs.Messages.{SpellEach, flights_in, message_texts, messages_on}
 use Rattle.ssim_program.specs.Offices.{IsSameFile, PrintsTheSame}
 use Rattle.ssim_program.specs.Timetables.{BeginsAs, HasCarrier, ReadsAsDesk, ReadsTimetable, timetable_kind}
 use Rattle.ssim_program.specs.declared.explain.file_kind.FileKind.{FileKind}
 use Rattle.ssim_program.specs.declared.explain.file_kind.FileKind.TheVariants as kind
-use Rattle.ssim_program.specs.Boards.{board_at}
+use Rattle.ssim_board.specs.declared.board.Board.{Board as StationBoard}
+use Rattle.ssim_values.specs.declared.time_mode.TimeMode.{TimeMode}
 use Rattle.ssim_board.specs.InOrder.{board_of}
 use Rattle.ssim_board.specs.Lines.{board_lines}
 use Rattle.ssim_program.specs.print.Calendar.{calendar_lines}
@@ -45,11 +47,14 @@ use Rattle.ssim_program.proofs.Again.{one_export}
 use Rattle.ssim_program.proofs.Origins.{same_some}
 use Rattle.ssim_program.proofs.Withdrawing.{printed_once}
 
+abbrev board_at : TimeMode → List ℕ → ℕ → StationBoard
+board_at mode station day = record { station = station; day = day; mode = mode }
+
 -- a desk, whatever its latest change applied
 abbrev seen : BaseSeen → List Entry → DeskSeen
 seen base held = record { base = base; held = held; applied = 0 }
 
--- words name one list of flights
+-- words spell one list of flights
 spell_once : (words : List Text) (flights others : List Designator) → SpellEach words flights → SpellEach words others → flights ≡ others
 spell_once [] [] [] one other = refl
 spell_once (word ∷ words) (d ∷ flights) (e ∷ others) one other =
@@ -67,6 +72,22 @@ carrier_in other _ = other
 one_carrier : (base other : List Record) (carrier that : CarrierFields) → base ≡ other → HasCarrier base carrier → HasCarrier other that → carrier ≡ that
 one_carrier base other carrier that same (header, later, is) (head, rest, are) = ap (carrier_in carrier) (sym is ∙ same ∙ are)
 
+-- equal bytes are printed
+pub prints_same : (acts again : List Act) (bytes others : List ℕ) → acts ≡ Print bytes ∷ [] → again ≡ Print others ∷ [] → bytes ≡ others → printed_by acts ≡ printed_by again
+prints_same acts again bytes others are are_too same = ap printed_by are ∙ ap (λ (bs : List ℕ). bs ++ []) same ∙ sym (ap printed_by are_too)
+
+-- words name one flight on one date
+named_once : (airline : List ℕ) (flight date : Text) (named other : Designator × ℕ) → flight_date airline flight date (Ok named) → flight_date airline flight date (Ok other) → named ≡ other
+named_once airline flight date named other (d, spelled, (day, dated, (_, here, is))) (e, spelled_too, (that, dated_too, (_, here_too, are))) =
+    let designator = SpellsDesignator-unique d e flight spelled spelled_too in
+    let same : day ≡ that = same_some day that (sym dated ∙ dated_too) in
+    is ∙ ap₂ (λ (x : Designator) (n : ℕ). (x, n)) designator same ∙ sym are
+
+-- words name one list of flights
+flights_once : (airline : List ℕ) (words : List Text) (flights others : List Designator) → flights_in airline words (Ok flights) → flights_in airline words (Ok others) → flights ≡ others
+flights_once airline words flights others (_, _, (these, spelled, (_, here, is))) (_, _, (those, spelled_too, (_, here_too, are))) =
+    is ∙ spell_once words these those spelled spelled_too ∙ sym are
+
 module _ (no_two : NoTwoDesks) where
   -- equal files are read as one desk
   one_desk : (files others : Files) (name another : Text) (desk other : DeskSeen) → IsSameFile files name others another → ReadsDesk (Some files) name desk → ReadsDesk (Some others) another other
@@ -76,46 +97,46 @@ module _ (no_two : NoTwoDesks) where
       no_two mine desk.base other.base desk.held other.held (omega (arith, has.0)) is (subst (λ (bs : List ℕ). IsDeskFile bs other.base other.held) same are)
 
   pub findings_same : PrintsTheSame Findings
-  findings_same files others name another printed again kept also same (desk, read, is, _) (other, reads, are, _) =
+  findings_same files others name another acts again same (bytes, (desk, read, is), all) (more, (other, reads, are), all_too) =
       let one = one_desk files others name another desk other same read reads in
-      is ∙ (λ i. findings_lines (entry_lines (one.1 i) (found_by (one.0 i) (one.1 i)))) ∙ sym are
+      prints_same acts again bytes more all all_too (is ∙ (λ i. findings_lines (entry_lines (one.1 i) (found_by (one.0 i) (one.1 i)))) ∙ sym are)
 
   pub export_same : PrintsTheSame Export
-  export_same files others name another printed again kept also same (desk, read, is, _) (other, reads, are, _) =
+  export_same files others name another acts again same (desk, read, (bytes, is, all)) (other, reads, (more, are, all_too)) =
       let one = one_desk files others name another desk other same read reads in
-      one_export other.base.records (days_of_desk (seen other.base other.held)) printed again
-      (subst (λ (es : List Entry). IsExport other.base.records (days_of_desk (seen other.base es)) printed) one.1
-      (subst (λ (b : BaseSeen). IsExport b.records (days_of_desk (seen b desk.held)) printed) one.0 is)) are
+      prints_same acts again bytes more all all_too
+      (one_export other.base.records (days_of_desk (seen other.base other.held)) bytes more
+      (subst (λ (es : List Entry). IsExport other.base.records (days_of_desk (seen other.base es)) bytes) one.1
+      (subst (λ (b : BaseSeen). IsExport b.records (days_of_desk (seen b desk.held)) bytes) one.0 is)) are)
 
   pub texts_same : (flights : List Text) → PrintsTheSame (λ file. Texts file flights)
-  texts_same words files others name another printed again kept also same (desk, read, is, _) (other, reads, are, _) =
+  texts_same words files others name another acts again same (bytes, (desk, read, (flights, named, is)), all) (more, (other, reads, (those, named_too, are)), all_too) =
       let one = one_desk files others name another desk other same read reads in
-      let flights = spell_once words is.flights are.flights is.named.spelled are.named.spelled in
-      is.printed_is ∙ (λ i. message_texts (messages_on (flights i) (one.1 i))) ∙ sym are.printed_is
+      let flights_are = flights_once (airline_of other.base.records) words flights those (subst (λ (b : BaseSeen). flights_in (airline_of b.records) words (Ok flights)) one.0 named) named_too in
+      prints_same acts again bytes more all all_too (is ∙ (λ i. message_texts (messages_on (flights_are i) (one.1 i))) ∙ sym are)
 
   pub withdraw_same : OneReference → (out : Text) (references : List Text) → PrintsTheSame (λ file. Withdraw file out references)
-  withdraw_same one_each out words files others name another printed again kept also same (desk, after, read, is, _, _, _) (other, last, reads, are, _, _, _) =
+  withdraw_same one_each out words files others name another acts again same (_, may, (desk, read, (left, is, (rising, all)))) (_, may_too, (other, reads, (last, are, (rising_too, all_too)))) =
       let one = one_desk files others name another desk other same read reads in
-      printed_once one_each words (map_of other.held) (map_of after.held) (map_of last.held) printed again
-      (subst (λ (es : List Entry). Withdraws words (map_of es) (map_of after.held) printed) one.1 is.withdraws) are.withdraws
+      let lines : left.1 ≡ last.1 = printed_once one_each words (map_of other.held) (map_of left.0.held) (map_of last.0.held) left.1 last.1
+      (subst (λ (es : List Entry). Withdraws words (map_of es) (map_of left.0.held) left.1) one.1 is.withdraws) are.withdraws in
+      ap printed_by all ∙ ap (λ (bs : List ℕ). bs ++ []) lines ∙ sym (ap printed_by all_too)
 
   pub show_same : (flight date : Text) → PrintsTheSame (λ file. Show file flight date)
-  show_same flight date files others name another printed again kept also same (desk, read, is, _) (other, reads, are, _) =
+  show_same flight date files others name another acts again same (bytes, (desk, read, (named, names, is)), all) (more, (other, reads, (that, names_too, are)), all_too) =
       let one = one_desk files others name another desk other same read reads in
-      let designator = SpellsDesignator-unique is.designator are.designator flight is.named.spelled are.named.spelled in
-      let day : is.day ≡ are.day = same_some is.day are.day (sym is.named.dated ∙ are.named.dated) in
-      is.printed_is
-      ∙ (λ i. shown_flight (designator i) (day i) (left_by (one.0 i) (one.1 i) (designator i).flight (day i)))
-      ∙ sym are.printed_is
+      let both = named_once (airline_of other.base.records) flight date named that (subst (λ (b : BaseSeen). flight_date (airline_of b.records) flight date (Ok named)) one.0 names) names_too in
+      prints_same acts again bytes more all all_too
+      (is ∙ (λ i. shown_flight (both i).0 (both i).1 (left_by (one.0 i) (one.1 i) (both i).0.flight (both i).1)) ∙ sym are)
 
   pub history_same : (flight date : Text) → PrintsTheSame (λ file. History file flight date)
-  history_same flight date files others name another printed again kept also same (desk, read, is, _) (other, reads, are, _) =
+  history_same flight date files others name another acts again same (bytes, (desk, read, (named, names, is)), all) (more, (other, reads, (that, names_too, are)), all_too) =
       let one = one_desk files others name another desk other same read reads in
-      let designator = SpellsDesignator-unique is.designator are.designator flight is.named.spelled are.named.spelled in
-      let day : is.day ≡ are.day = same_some is.day are.day (sym is.named.dated ∙ are.named.dated) in
-      is.printed_is
-      ∙ (λ i. history_lines (designator i) (day i) (itinerary (one.0 i).records (designator i).flight (day i)) (steps_on (seen (one.0 i) (one.1 i)) (designator i).flight (day i)))
-      ∙ sym are.printed_is
+      let both = named_once (airline_of other.base.records) flight date named that (subst (λ (b : BaseSeen). flight_date (airline_of b.records) flight date (Ok named)) one.0 names) names_too in
+      prints_same acts again bytes more all all_too
+      (is
+      ∙ (λ i. history_lines (both i).0 (both i).1 (itinerary (one.0 i).records (both i).0.flight (both i).1) (steps_on (seen (one.0 i) (one.1 i)) (both i).0.flight (both i).1))
+      ∙ sym are)
 
   -- the bytes of a file are of one kind
   one_kind : (files others : Files) (name another : Text) (k other : FileKind) → IsSameFile files name others another → BeginsAs k (Some files) name → BeginsAs other (Some others) another → k ≡ other
@@ -146,29 +167,33 @@ module _ (no_two : NoTwoDesks) where
   same_timetable same_base files others name another desk other same (inr (begins, is)) (inr (begins_too, are)) = one_data_set same_base files others name another desk other same is are
 
   pub board_same : SameBytesSameBase → (station date : Text) → PrintsTheSame (λ file. Board file station date)
-  board_same same_base station date files others name another printed again kept also same (desk, read, is, _) (other, reads, are, _) =
+  board_same same_base station date files others name another acts again same (bytes, (desk, read, (_, here, (day, dated, (carrier, has, is)))), all) (more, (other, reads, (_, here_too, (that, dated_too, (theirs, has_too, are)))), all_too) =
       let one = same_timetable same_base files others name another desk other same read reads in
-      let day : is.day ≡ are.day = same_some is.day are.day (sym is.dated ∙ are.dated) in
-      let carrier = one_carrier desk.base.records other.base.records is.carrier are.carrier (ap (λ (b : BaseSeen). b.records) one.0) is.has_carrier are.has_carrier in
-      is.printed_is
-      ∙ (λ i. board_lines (carrier i).airline (day i) (board_of (board_at (carrier i).time_mode station (day i)) (days_of_desk (seen (one.0 i) (one.1 i)))))
-      ∙ sym are.printed_is
+      let same_day : day ≡ that = same_some day that (sym dated ∙ dated_too) in
+      let same_carrier = one_carrier desk.base.records other.base.records carrier theirs (ap (λ (b : BaseSeen). b.records) one.0) has has_too in
+      prints_same acts again bytes more all all_too
+      (is
+      ∙ (λ i. board_lines (same_carrier i).airline (same_day i) (board_of (board_at (same_carrier i).time_mode station (same_day i)) (days_of_desk (seen (one.0 i) (one.1 i)))))
+      ∙ sym are)
 
   pub list_same : SameBytesSameBase → (form : ListForm) (flights : List Text) → PrintsTheSame (λ file. Listing form file flights)
-  list_same same_base form words files others name another printed again kept also same (desk, read, is, _) (other, reads, are, _) =
+  list_same same_base form words files others name another acts again same (bytes, (desk, read, (flights, named, is)), all) (more, (other, reads, (those, named_too, are)), all_too) =
       let one = same_timetable same_base files others name another desk other same read reads in
-      let flights = spell_once words is.flights are.flights is.named.spelled are.named.spelled in
-      is.printed_is
-      ∙ (λ i. printed_list form (airline_of (one.0 i).records) (chosen (seen (one.0 i) (one.1 i)) (flights i)))
-      ∙ sym are.printed_is
+      let both = flights_once (airline_of other.base.records) words flights those (subst (λ (b : BaseSeen). flights_in (airline_of b.records) words (Ok flights)) one.0 named) named_too in
+      prints_same acts again bytes more all all_too
+      (is ∙ (λ i. printed_list form (airline_of (one.0 i).records) (chosen (seen (one.0 i) (one.1 i)) (both i))) ∙ sym are)
 
   pub calendar_same : SameBytesSameBase → (flight : Text) → PrintsTheSame (λ file. Calendar file flight)
-  calendar_same same_base flight files others name another printed again kept also same (desk, read, is, _) (other, reads, are, _) =
+  calendar_same same_base word files others name another acts again same (bytes, (desk, read, (flights, named, (flight, first, is))), all) (more, (other, reads, (those, named_too, (that, first_too, are))), all_too) =
       let one = same_timetable same_base files others name another desk other same read reads in
-      let designator = SpellsDesignator-unique is.designator are.designator flight is.named.spelled.0 are.named.spelled.0 in
-      is.printed_is
-      ∙ (λ i. calendar_lines (designator i) (days_of_desk (seen (one.0 i) (one.1 i)) (designator i).flight))
-      ∙ sym are.printed_is
+      let both = flights_once (airline_of other.base.records) (word ∷ []) flights those (subst (λ (b : BaseSeen). flights_in (airline_of b.records) (word ∷ []) (Ok flights)) one.0 named) named_too in
+      let designator : flight ≡ that = ap (first_of flight) (sym first ∙ both ∙ first_too) in
+      prints_same acts again bytes more all all_too
+      (is ∙ (λ i. calendar_lines (designator i) (days_of_desk (seen (one.0 i) (one.1 i)) (designator i).flight)) ∙ sym are)
+    where
+      first_of : Designator → List Designator → Designator
+      first_of none [] = none
+      first_of none (d ∷ ds) = d
 
 -- the lines of some problems of so many records
 abbrev lines_of : ℕ → List BaseFault → List ℕ
@@ -176,10 +201,10 @@ lines_of records faults = flat_map problem_line faults ++ line (printed_text (pr
 
 -- equal files have the same problems
 pub problems_same : SameBytesSameProblems → PrintsTheSame Problems
-problems_same one files others name another printed again kept also (bytes, here, there) (p, (mine, (has, at, left), found), is, _) (q, (theirs, (has_too, at_too, left_too), also_found), are, _) =
+problems_same one files others name another acts again (bytes, here, there) (printed, (p, (mine, (has, at, left), found), is), all) (more, (q, (theirs, (has_too, at_too, left_too), also_found), are), all_too) =
     let same : has ≡ bytes = same_some has bytes (sym at ∙ here) in
     let same_too : has_too ≡ bytes = same_some has_too bytes (sym at_too ∙ there) in
     let first = subst (λ (l : Option (List ℕ)). HasProblems file_limit l p) (left ∙ ap Some same) found in
     let second = subst (λ (l : Option (List ℕ)). HasProblems file_limit l q) (left_too ∙ ap Some same_too) also_found in
     let equal = one bytes p q first.1 second.1 in
-    is ∙ ap₂ (λ (n : ℕ) (fs : List BaseFault). lines_of n fs) equal.0 equal.1 ∙ sym are
+    prints_same acts again printed more all all_too (is ∙ ap₂ (λ (n : ℕ) (fs : List BaseFault). lines_of n fs) equal.0 equal.1 ∙ sym are)

@@ -1,93 +1,37 @@
--- What `receive` does, from what its calls do.
-use Rattle.std.proofs.Common.{◌≡◌, ◌∙◌, ◌⊎◌, inl, inr, ℕ, true, List, [], ◌∷◌, ◌++◌, Option, None, Some, Result, Ok, Err, refl, ap, subst}
+-- The files that `receive` keeps are those of its answer.
+use Rattle.std.proofs.Common.{◌≡◌, ◌∙◌, ℕ, List, [], ◌∷◌, None, Option, Some, ap, ap₂, option_map, refl}
 use Rattle.ssim_held.specs.Entries.{DeskSeen}
 use Rattle.ssim_held.specs.File.{desk_file}
-use Rattle.ssim_command_line.specs.Line.{Text, Receive}
-use Rattle.ssim_program.specs.Desks.{RefusesDeskFile, RefusesHold, RefusesKeep}
-use Rattle.ssim_program.specs.Files.{Files, Kept, with_kept}
-use Rattle.ssim_program.specs.Receiving.{MayReceive, Receives, RefusesPlaces, file_of_refused}
-use Rattle.ssim_program.specs.internal.Program.{Does}
-use Rattle.ssim_program.specs.internal.Receive.{HasReceived, KeepsEach}
-use Rattle.ssim_program.specs.print.Paper.{Breaks, Grows, Paper}
-use Rattle.ssim_program.specs.World.{world}
-use Rattle.ssim_program.specs.declared.content_kind.ContentKind.TheVariants as kind
-use Rattle.ssim_program.specs.declared.refusal.Refusal.{Refusal}
-use Rattle.ssim_program.specs.declared.refusal.Refusal.TheVariants as refusals
-use Rattle.ssim_program.proofs.Printers.{nothing}
+use Rattle.ssim_command_line.specs.Line.{Text}
+use Rattle.ssim_program.specs.Acts.{Act, Keep}
+use Rattle.ssim_program.specs.Receiving.{Receipt, received_files, refused_texts}
+use Rattle.ssim_program.specs.internal.Program.{bytes_of, keeps}
+use Rattle.ssim_program.specs.declared.made.Contents.{Contents}
+use Rattle.ssim_program.specs.declared.made.Kept.{Kept}
 
--- the desk's file is not held
-pub desk_not_held : (files : Option Files) (refused : Option Text) (file out : Text) (names : List Text) (refusal : Refusal) → RefusesHold files out kind.DeskFile refusal → RefusesPlaces files refused file out names refusal
-desk_not_held files None file out names refusal why = why
-desk_not_held files (Some name) file out names refusal why = inl why
+-- the acts that keep refused texts and a desk
+abbrev pub kept_in : Option Text → Text → List ℕ → List ℕ → List Act
+kept_in None out texts desk = Keep out desk ∷ []
+kept_in (Some refused) out texts desk = Keep refused texts ∷ Keep out desk ∷ []
 
-module _ (files : Option Files) (n : ℕ) (refused : Option Text) (file out : Text) (names : List Text) where
-  -- a file that is to be kept is not held
-  pub not_held : (new : Option Files) (m : ℕ) (p : Paper) (refusal : Refusal) → RefusesPlaces files refused file out names refusal → new ≡ files → m ≡ n
-      → Does (Receive refused file out names) (world files n p) (world new m p) (Err refusal)
-  not_held new m p refusal why same counted =
-      inl (record { printed = []; kept = []; why = inl ((refl, inl why), counted, refl); files = same; grows = nothing p })
+abbrev pub kept_at : {H : Type 0} → Contents → H → Kept H
+kept_at contents place = record { place = place; contents = contents }
 
-module _ (files : Option Files) (n : ℕ) (refused : Option Text) (file out : Text) (names : List Text) (may : MayReceive files refused file out names) where
-  -- the desk file is refused, or memory ran out
-  pub not_received : (new : Option Files) (m : ℕ) (p : Paper) (refusal : Refusal) → RefusesDeskFile files file refusal ⊎ (refusal ≡ refusals.Memory) → new ≡ files → m ≡ n
-      → Does (Receive refused file out names) (world files n p) (world new m p) (Err refusal)
-  not_received new m p refusal why same counted =
-      inl (record { printed = []; kept = []; why = inl ((refl, inr (may, why)), counted, refl); files = same; grows = nothing p })
+keeps_in : {H : Type 0} (file : H → List ℕ) (place : Option H) (desk : H) (texts whole : Contents)
+    → keeps file (option_map (kept_at texts) place) (kept_at whole desk) ≡ kept_in (option_map file place) (file desk) (bytes_of texts) (bytes_of whole)
+keeps_in file None desk texts whole = refl
+keeps_in file (Some place) desk texts whole = refl
 
-  module _ (after : DeskSeen) (lines texts : List ℕ) (has : HasReceived files file names after lines texts) where
-    receives : Receives files refused file out names lines (file_of_refused refused texts ++ (out, desk_file after.base after.held) ∷ [])
-    receives = record {
-      before = has.before;
-      after = after;
-      reads = has.reads;
-      receipts = has.receipts;
-      received = has.received;
-      rising = has.rising;
-      printed_is = has.lines_are;
-      kept_is = ap (λ (ts : List ℕ). file_of_refused refused ts ++ (out, desk_file after.base after.held) ∷ []) has.texts_are;
-      may = may;
-    }
+same_files : (refused : Option Text) (out : Text) (receipts : List Receipt) (after : DeskSeen) → kept_in refused out (refused_texts receipts) (desk_file after.base after.held) ≡ received_files refused out receipts after
+same_files None out receipts after = refl
+same_files (Some name) out receipts after = refl
 
-    -- the lines are not printed
-    pub not_printed : (new : Option Files) (m : ℕ) (p q : Paper) (refusal : Refusal) → new ≡ files → m ≡ n → refusal ≡ refusals.WriteFault → Breaks lines p q
-        → Does (Receive refused file out names) (world files n p) (world new m q) (Err refusal)
-    not_printed new m p q refusal same counted failed breaks = inr (record {
-      is = failed;
-      printed = lines;
-      kept = [];
-      begins = (file_of_refused refused texts ++ (out, desk_file after.base after.held) ∷ [], receives, refl);
-      files = same;
-      failures = counted;
-      breaks = breaks;
-    })
-
-    -- the lines are printed, and the files are kept or not
-    pub kept_or_not : (k : Result (Unit {0}) Refusal) (between : Option Files) (l : ℕ) (new : Option Files) (m : ℕ) (p q : Paper) → between ≡ files → l ≡ n → Grows lines p q → q.flushed ≡ true
-        → KeepsEach (file_of_refused refused texts ++ (out, desk_file after.base after.held) ∷ []) between new l m k
-        → Does (Receive refused file out names) (world files n p) (world new m q) k
-    kept_or_not (Ok x) between l new m p q same counted grows flushed (kept, none) = record {
-      printed = lines;
-      kept = file_of_refused refused texts ++ (out, desk_file after.base after.held) ∷ [];
-      makes = receives;
-      again = tt;
-      files = kept ∙ ap (with_kept (file_of_refused refused texts ++ (out, desk_file after.base after.held) ∷ [])) same;
-      failures = none ∙ counted;
-      grows = grows;
-      flushed = flushed;
-    }
-    kept_or_not (Err refusal) between l new m p q same counted grows flushed (first, name, bytes, later, are, kept, why) = inl (record {
-      printed = lines;
-      kept = first;
-      why = inr (record {
-        made = lines;
-        name = name;
-        bytes = bytes;
-        later = later;
-        makes = subst (λ (k : Kept). Receives files refused file out names lines k) are receives;
-        printed_is = refl;
-        kept_is = tt;
-        why = subst (λ (k : ℕ). RefusesKeep k m name refusal) counted why;
-      });
-      files = kept ∙ ap (with_kept first) same;
-      grows = grows;
-    })
+pub keeps_received : {H : Type 0} (file : H → List ℕ) (place : Option H) (kept : Option (Kept H)) (desk : H) (refused : Option Text) (out : Text) (texts whole : Contents) (receipts : List Receipt) (after : DeskSeen)
+    → kept ≡ option_map (kept_at texts) place → option_map file place ≡ refused → file desk ≡ out → bytes_of texts ≡ refused_texts receipts → bytes_of whole ≡ desk_file after.base after.held
+    → keeps file kept (kept_at whole desk) ≡ received_files refused out receipts after
+keeps_received {H = H} file place kept desk refused out texts whole receipts after is named here texts_are whole_is =
+    ap (λ (k : Option (Kept H)). keeps file k (kept_at whole desk)) is
+    ∙ keeps_in file place desk texts whole
+    ∙ ap₂ (λ (n : Option Text) (o : Text). kept_in n o (bytes_of texts) (bytes_of whole)) named here
+    ∙ ap₂ (λ (ts bs : List ℕ). kept_in refused out ts bs) texts_are whole_is
+    ∙ same_files refused out receipts after

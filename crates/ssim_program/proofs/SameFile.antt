@@ -1,12 +1,20 @@
 -- Whether one of the names is the file's: none of the first i is, and then the next one is, or not.
-use Rattle.std.proofs.Common.{◌≡◌, ◌∙◌, ◌||◌, ℕ, zero, suc, ◌+◌, Bool, true, false, List, [], ◌∷◌, ◌++◌, take, Option, None, Some, IfSome, is_some, unwrap_or, true≢false, refl, sym, ap}
+use Rattle.std.proofs.Common.{◌≡◌, ◌∙◌, ◌||◌, ℕ, zero, suc, ◌+◌, Bool, true, false, List, [], ◌∷◌, ◌++◌, take, Option, None, Some, IfSome, is_some, unwrap_or, true≢false, refl, sym, ap, arith}
 use Rattle.std.specs.List.{list_any, slice_get}
 use Rattle.std.specs.Str.{bytes_eq}
 use Rattle.std.proofs.lemmas.List.Folds.{list_any-append}
 use Rattle.ssim_command_line.specs.Line.{Text}
 use Rattle.ssim_program.specs.Files.{Files}
 use Rattle.ssim_program.specs.Receiving.{IsApart}
-use Rattle.ssim_program.proofs.Texts.{next}
+
+-- the first i of a list and the next one
+first_ones : {A : Type 0} (xs : List A) (i : ℕ) (x : A) → slice_get xs i ≡ Some x → take (suc i) xs ≡ take i xs ++ x ∷ []
+first_ones [] i x e = absurd (true≢false (sym (ap is_some e)))
+first_ones (y ∷ ys) zero x e = ap (λ o. unwrap_or o x ∷ []) e
+first_ones (y ∷ ys) (suc i) x e = ap (λ zs. y ∷ zs) (first_ones ys i x e)
+
+next : {A : Type 0} (xs : List A) (i : ℕ) (x : A) → slice_get xs i ≡ Some x → take (i + 1) xs ≡ take i xs ++ x ∷ []
+next xs i x e = let more : i + 1 ≡ suc i = omega arith in ap (λ n. take n xs) more ∙ first_ones xs i x e
 
 neither : (a b : Bool) → a ≡ false → b ≡ false → (a || (b || false)) ≡ false
 neither false false one other = refl

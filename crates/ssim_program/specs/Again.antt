@@ -1,11 +1,12 @@
 -- What `tidy` or `export` wrote can be tidied again, with the same bytes.
-use Rattle.std.specs.Prelude.{◌≡◌, ℕ, ◌+◌, ◌≤◌, List, [], length, ⊤, Option, Some, Ok}
+use Rattle.std.specs.Prelude.{◌≡◌, ℕ, ◌+◌, ◌≤◌, List, [], ◌∷◌, length, ⊤, Option, Some, Ok}
 use Rattle.std.specs.Io.KnownBytes.{Appends}
 use Rattle.ssim_records.specs.declared.record.Record.{Record}
 use Rattle.ssim_base.specs.Base.{Done, data_set}
 use Rattle.ssim_base.specs.ReadBack.{AreRead}
-use Rattle.ssim_program.specs.Effects.{Makes}
-use Rattle.ssim_program.specs.Files.{Files, Kept, file_of}
+use Rattle.ssim_program.specs.Acts.{Act, Print}
+use Rattle.ssim_program.specs.Answers.{tidy}
+use Rattle.ssim_program.specs.Files.{Files, file_of}
 use Rattle.ssim_command_line.specs.Line.{Line, Text, Tidy, Export}
 use Rattle.ssim_program.specs.Made.{IsExportOf, file_limit}
 
@@ -31,7 +32,6 @@ PrintsItself _ before after = ⊤
 
 -- From a file of bytes that are read as themselves `tidy` makes the same bytes.
 abbrev pub TidiesOnce : Type 0
-TidiesOnce = (all : Files) (name : Text) (bytes again : List ℕ) (kept : Kept) → ReadsAsItself bytes
+TidiesOnce = (all : Files) (name : Text) (bytes : List ℕ) (acts : List Act) → ReadsAsItself bytes
     → file_of all name ≡ Some bytes → length bytes ≤ file_limit
-    → Makes (Tidy name) (Some all) again kept
-    → again ≡ bytes
+    → tidy (Some all) name (Ok acts) → acts ≡ Print bytes ∷ []

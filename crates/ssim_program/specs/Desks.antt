@@ -1,6 +1,6 @@
 -- What the commands on desk files read, make and print, and why they are refused.
 use Rattle.std.specs.Prelude.{◌≡◌, ◌≢◌, ◌⊎◌, ℕ, ◌+◌, ◌%◌, ◌^◌, List, [], ◌∷◌, ◌++◌, take, slice_get, Option}
-use Rattle.std.specs.Prelude.{Some, None, Ok}
+use Rattle.std.specs.Prelude.{Some, None, Result, Ok, Err}
 use Rattle.ssim_values.specs.Designator.{SpellsDesignator}
 use Rattle.ssim_values.specs.declared.designator.Designator.{Designator}
 use Rattle.ssim_values.specs.declared.fault.Fault.TheVariants as value_fault
@@ -25,7 +25,8 @@ use Rattle.ssim_desk.specs.declared.desk.Took.TheVariants as took
 use Rattle.ssim_desk.specs.declared.steps.Answer.TheVariants.{Merged}
 use Rattle.ssim_program.specs.Files.{Files}
 use Rattle.ssim_command_line.specs.Line.{Text}
-use Rattle.ssim_program.specs.Made.{HasFile, IsExport, RefusesLoad}
+use Rattle.ssim_program.specs.Answer.{Answer, Gives, OneOr, OrElse, Require, ◌>>=◌}
+use Rattle.ssim_program.specs.Made.{HasFile, RefusesLoad}
 use Rattle.ssim_program.specs.print.PrintedLine.{printed_text}
 use Rattle.ssim_program.specs.print.Refusal.{IsOfFile, SaysBusy, SaysOccupied, refusal_of_desk}
 use Rattle.ssim_program.specs.Places.{IsOccupied}
@@ -54,25 +55,6 @@ RefusesDeskFile files name refusal =
     RefusesLoad files name refusal
     ⊎ ((bytes : List ℕ) × HasFile files name bytes × IsNoDeskFile bytes × (offset : ℕ)
     × (refusal ≡ refused.Desk (desk_fault.File offset)))
-
--- Why the file of a name is not held for what a command keeps: memory ran out; or the file may not
--- be replaced, and the refusal is 93 with the name; or, of a store whose files the contract cannot
--- see, another command holds the file (92), or it cannot be read (91).
-abbrev pub RefusesHold : Option Files → Text → ContentKind → Refusal → Type 0
-RefusesHold files name kept refusal =
-    (refusal ≡ refused.Memory)
-    ⊎ (SaysOccupied name refusal × IsOccupied files name kept)
-    ⊎ (SaysBusy name refusal × (files ≡ None))
-    ⊎ (IsOfFile name refusal × (files ≡ None))
-
--- Why a file is not kept, by the count of the store's failures: memory ran out; or the store
--- counted one failure more, and the refusal is 91 with the name; or the file changed after it was
--- held, and the refusal is 92 with the name.
-abbrev pub RefusesKeep : ℕ → ℕ → Text → Refusal → Type 0
-RefusesKeep old new name refusal =
-    ((refusal ≡ refused.Memory) × (new ≡ old))
-    ⊎ (IsOfFile name refusal × (new ≡ (old + 1) % 2 ^ 64))
-    ⊎ (SaysBusy name refusal × (new ≡ old))
 
 -- the line with the number of messages that a desk holds
 abbrev pub held_line : ℕ → List ℕ
@@ -104,14 +86,6 @@ TakesText files name before after printed =
     × IsTaken before text answer reference after
     × (printed ≡ took_line answer reference)
 
--- the texts in the files of these names are taken one after another, and their lines are printed
-abbrev pub TakesTexts : Option Files → List Text → DeskSeen → DeskSeen → List ℕ → Type 0
-TakesTexts files [] before after printed = (after ≡ before) × (printed ≡ [])
-TakesTexts files (name ∷ names) before after printed =
-    (between : DeskSeen) × (first : List ℕ) × (later : List ℕ)
-    × TakesText files name before between first × TakesTexts files names between after later
-    × (printed ≡ first ++ later)
-
 -- why the text in the file of this name is refused: the file is not loaded; or the desk refuses the
 -- text
 abbrev pub RefusesFileText : Option Files → Text → DeskSeen → Refusal → Type 0
@@ -119,21 +93,6 @@ RefusesFileText files name desk refusal =
     RefusesLoad files name refusal
     ⊎ ((text : List ℕ) × HasFile files name text × (fault : DeskFault)
     × RefusesText (state_of desk) text fault × (refusal ≡ refusal_of_desk fault))
-
--- the lines of the first n texts, all of which are taken
-abbrev pub TakesFirst : Option Files → List Text → ℕ → DeskSeen → DeskSeen → List ℕ → Type 0
-TakesFirst files names n before after printed = TakesTexts files (take n names) before after printed
-
--- text n + 1 is refused, after the first n were taken and their lines printed
-pub record RefusesTexts (files : Option Files) (names : List Text) (before : DeskSeen)
-    (printed : List ℕ)
-    (refusal : Refusal) : Type 0 where
-  pub n : ℕ
-  pub between : DeskSeen
-  pub taken : TakesFirst files names n before between printed
-  pub name : Text
-  pub next : slice_get names n ≡ Some name
-  pub why : RefusesFileText files name between refusal
 
 -- ---- two desks
 
@@ -148,46 +107,33 @@ RefusesMerge mine theirs refusal =
     (fault : DeskFault) × RefusesDesk (state_of mine) (state_of theirs) fault
     × (refusal ≡ refusal_of_desk fault)
 
--- ---- what a desk shows
+-- ---- words
 
--- one word names a flight of the desk's airline, the other a date
-pub record NamesDate (desk : DeskSeen) (flight date : Text) (designator : Designator)
-    (day : ℕ) : Type 0 where
-  pub spelled : SpellsDesignator designator flight
-  pub dated : day_in date ≡ Some day
-  pub airline : designator.airline ≡ airline_of desk.base.records
+-- the flight of a designator is another airline's
+abbrev pub other_airline : Refusal
+other_airline = refused.Desk (desk_fault.Resolve (resolve_fault.Airline 0))
 
--- the flight that a word names is the airline's, and the lines have its legs on the date that a
--- word names
-pub record Shows (desk : DeskSeen) (flight date : Text) (printed : List ℕ) : Type 0 where
-  pub designator : Designator
-  pub day : ℕ
-  pub named : NamesDate desk flight date designator day
-  pub printed_is : printed ≡ shown_flight designator day (timetable_of desk designator.flight day)
+-- the flight of the airline, and the date, that two words name
+abbrev pub flight_date : List ℕ → Text → Text → Answer (Designator × ℕ)
+flight_date airline flight date = do
+  designator ← OneOr (λ d. SpellsDesignator d flight) (refused.Value value_fault.BadDesignator)
+  day ← OrElse (day_in date) (refused.Value value_fault.BadDate)
+  here ← Require (designator.airline ≡ airline) other_airline
+  Gives (designator, day)
 
--- the lines have what the data set has for the flight on the date that the words name, and what
--- each sub-message of the desk did with it
-pub record ShowsHistory (desk : DeskSeen) (flight date : Text) (printed : List ℕ) : Type 0 where
-  pub designator : Designator
-  pub day : ℕ
-  pub named : NamesDate desk flight date designator day
-  pub printed_is : printed ≡ history_lines designator day
-      (itinerary desk.base.records designator.flight day) (steps_on desk designator.flight day)
+-- ---- answers
 
--- Why no flight is shown. Memory ran out. Or the first word names no flight (6). Or the first word
--- names a flight, and the second no date (1). Or both are valid, and the flight is another
--- airline's (41, sub-message 0).
-abbrev pub RefusesFlight : DeskSeen → Text → Text → Refusal → Type 0
-RefusesFlight desk flight date refusal =
-    (refusal ≡ refused.Memory)
-    ⊎ ((refusal ≡ refused.Value value_fault.BadDesignator)
-    × ((d : Designator) → SpellsDesignator d flight → ⊥))
-    ⊎ ((refusal ≡ refused.Value value_fault.BadDate) × (day_in date ≡ None) × (d : Designator)
-    × SpellsDesignator d flight)
-    ⊎ ((refusal ≡ refused.Desk (desk_fault.Resolve (resolve_fault.Airline 0))) × (d : Designator)
-    × SpellsDesignator d flight × (d.airline ≢ airline_of desk.base.records)
-    × (day : ℕ) × (day_in date ≡ Some day))
+-- the desk in a file
+abbrev pub desk_in : Option Files → Text → Answer DeskSeen
+desk_in files name (Ok desk) = ReadsDesk files name desk
+desk_in files name (Err why) = RefusesDeskFile files name why
 
--- the bytes are the canonical export of what the desk has
-abbrev pub IsExportOfDesk : DeskSeen → List ℕ → Type 0
-IsExportOfDesk desk bytes = IsExport desk.base.records (days_of_desk desk) bytes
+-- The text in the file of this name is taken: the desk afterwards, and the line.
+abbrev pub text_taken : Option Files → Text → DeskSeen → Answer (DeskSeen × List ℕ)
+text_taken files name desk (Ok taken) = TakesText files name desk taken.0 taken.1
+text_taken files name desk (Err why) = RefusesFileText files name desk why
+
+-- two desks are merged
+abbrev pub merged : DeskSeen → DeskSeen → Answer DeskSeen
+merged mine theirs (Ok after) = IsMergeOf mine theirs after
+merged mine theirs (Err why) = RefusesMerge mine theirs why

@@ -1,4 +1,4 @@
--- What the commands make from a data set.
+-- What is read of files, and what the commands make from a data set.
 use Rattle.std.specs.Prelude.{◌≡◌, ◌⊎◌, ℕ, ◌<◌, ◌≤◌, IfSome, List, ◌++◌, length, Option, Some, Ok, Err}
 use Rattle.std.specs.List.{flat_map}
 use Rattle.ssim_values.specs.Flight.{FlightNumber}
@@ -22,6 +22,7 @@ use Rattle.ssim_base.specs.declared.stations.StationFault.{StationFault}
 use Rattle.ssim_text.specs.Left.{lines_left}
 use Rattle.ssim_program.specs.Files.{Files, IsOpened, file_of}
 use Rattle.ssim_command_line.specs.Line.{Text}
+use Rattle.ssim_program.specs.Answer.{Answer}
 use Rattle.ssim_program.specs.print.PrintedLine.{printed_text}
 use Rattle.ssim_program.specs.print.Refusal.{IsOfFile, fault_text, refusal_of_base}
 use Rattle.ssim_program.specs.print.Refusal.{refusal_of_stations}
@@ -141,3 +142,21 @@ RefusesBase files dataset stations refusal =
     ⊎ (((rows : List Row) × ReadsTable files stations rows)
     × (fault : BaseFault) × (refusal ≡ refusal_of_base fault) × IsOfBytes fault
     × ReadsFile files dataset (Err fault))
+
+-- ---- answers
+
+-- the records of the data set in a file, and the notes on it
+abbrev pub data_set_in : Option Files → Text → Answer (List Record × List Note)
+data_set_in files name (Ok set) = ReadsFile files name (Ok set)
+data_set_in files name (Err why) = RefusesFile files name why
+
+-- the problems of the data set in a file
+abbrev pub problems_in : Option Files → Text → Answer Problems
+problems_in files name (Ok problems) = FindsProblems files name problems
+problems_in files name (Err why) = RefusesLoad files name why
+
+-- the base of a data set and a station table
+abbrev pub base_in : Option Files → Text → Text → Answer BaseSeen
+base_in files dataset stations (Ok base) =
+    (notes : List Note) × ReadsBase files dataset stations base notes
+base_in files dataset stations (Err why) = RefusesBase files dataset stations why

@@ -1,6 +1,7 @@
 -- What is in desk files after any commands: offices to whose desks the same messages were brought
 -- have the same desk file.
-use Rattle.std.specs.Prelude.{◌≡◌, ◌⊎◌, ◌↔◌, ℕ, ◌≤◌, if◌then◌else◌, List, [], ◌∷◌, length, Option, Some, None}
+use Rattle.std.specs.Prelude.{◌≡◌, ◌⊎◌, ◌↔◌, ℕ, ◌≤◌, true, if◌then◌else◌, List, [], ◌∷◌, ◌++◌, length}
+use Rattle.std.specs.Prelude.{Option, Some, None, Result, Ok}
 use Rattle.std.specs.Str.{bytes_eq}
 use Rattle.ssim_base.specs.BaseSeen.{BaseSeen}
 use Rattle.ssim_text.specs.Message.{MessageValue}
@@ -9,32 +10,37 @@ use Rattle.ssim_held.specs.Entries.{DeskSeen, Entry, map_of, state_of}
 use Rattle.ssim_held.specs.File.{IsDeskFile}
 use Rattle.ssim_held.specs.Held.{Holds, Says}
 use Rattle.ssim_program.specs.Desks.{ReadsDesk}
-use Rattle.ssim_program.specs.Effects.{Makes}
-use Rattle.ssim_program.specs.Files.{Files, Kept, file_of, with_kept}
+use Rattle.ssim_program.specs.Acts.{Act, Acts, is_whole, kept_by, printed_by}
+use Rattle.ssim_program.specs.Answers.{answers}
+use Rattle.ssim_program.specs.Files.{Files, file_of, with_kept}
 use Rattle.ssim_command_line.specs.Line.{Line, Text, Start, Take, Merge, Withdraw, Receive, Publish}
-use Rattle.ssim_program.specs.Receiving.{IsAccepted, Receipt, Receives, refused_texts, texts_received}
+use Rattle.ssim_program.specs.Receiving.{IsAccepted, Receipt, received, received_files}
+use Rattle.ssim_program.specs.Receiving.{refused_texts, texts_received}
+use Rattle.ssim_program.specs.World.{Does, World}
+use Rattle.ssim_program.specs.declared.refusal.Refusal.{Refusal}
 use Rattle.ssim_program.specs.Made.{HasFile, file_limit}
 use Rattle.ssim_program.specs.Withdrawing.{IsNamed}
 
 -- ---- what a command leaves, whatever its status
 
--- the command has made what it makes of the old files, and the new files are these with the files
--- that it keeps
+-- the command has done all that it does by the old files, and the new files are these with the
+-- files that it keeps
 abbrev pub IsMade : Line → Option Files → Option Files → Type 0
-IsMade line old new =
-    (printed : List ℕ) × (kept : Kept) × Makes line old printed kept × (new ≡ with_kept kept old)
+IsMade line old new = (acts : List Act) × answers line old (Ok acts) × (is_whole acts ≡ true)
+    × (new ≡ with_kept (kept_by acts) old)
 
--- the command has made what it makes of the old files, but has kept only the first of its files
-abbrev pub IsHalfMade : Line → Option Files → Option Files → Type 0
-IsHalfMade line old new =
-    (printed : List ℕ) × (name : Text) × (bytes : List ℕ) × (later : Kept)
-    × Makes line old printed ((name, bytes) ∷ later) × (new ≡ with_kept ((name, bytes) ∷ []) old)
-
--- The command has made it, or the files are as they were, or only the first of its files was kept.
--- So a call of the program on the words of a command is an event of a history: `Done` (`Received`
--- for `receive`, and `Came` of its messages for `publish`), or `Refused`, or `Came` of that file.
+-- The command has done some of its acts, from the first on: all, so that it is made, or those before
+-- one that failed. So a call of the program on the words of a command is an event of a history:
+-- `Done` (`Received` for `receive`, and `Came` of its messages for `publish`), or `Refused`, or, if
+-- only the refused texts of `receive` were kept, `Came` of that file.
 abbrev pub Did : Line → Option Files → Option Files → Type 0
-Did line old new = IsMade line old new ⊎ (new ≡ old) ⊎ IsHalfMade line old new
+Did line old new = (done : List Act) × (later : List Act)
+    × Acts (answers line old) (done ++ later) × (new ≡ with_kept (kept_by done) old)
+
+-- whatever its status, a command has done some of its acts
+abbrev pub CommandsAreEvents : Type 0
+CommandsAreEvents = (line : Line) (before after : World) (result : Result (Unit {0}) Refusal)
+    → Does (answers line before.files) before after result → Did line before.files after.files
 
 -- ---- histories
 
@@ -59,15 +65,12 @@ abbrev pub files_of : History → Files
 files_of (Began files) = files
 files_of (Then history event files) = files
 
--- `receive` has made what it makes of the old files, with these receipts, and the new files are
--- these with the files that it keeps
-pub record IsReceived (refused : Option Text) (desk out : Text) (names : List Text)
-    (receipts : List Receipt) (old new : Files) : Type 0 where
-  pub printed : List ℕ
-  pub kept : Kept
-  pub receives : Receives (Some old) refused desk out names printed kept
-  pub receipts_are : receives.receipts ≡ receipts
-  pub files : Some new ≡ with_kept kept (Some old)
+-- the desk in a file has received texts, with these receipts, and the new files are the old ones with
+-- the files that are kept of it
+abbrev pub IsReceived : Option Text → Text → Text → List Text → List Receipt → Files → Files → Type 0
+IsReceived refused desk out names receipts old new = (after : DeskSeen)
+    × received (Some old) desk names (Ok (receipts, after))
+    × (Some new ≡ with_kept (kept_by (received_files refused out receipts after)) (Some old))
 
 -- The event leaves these files. No `receive` and no `publish` is an event `Done`: a
 -- `receive` is an event `Received`, which has the receipts too, and a `publish` is an event `Came`,
@@ -245,8 +248,8 @@ OfficesAgree =
 -- of equal files the command prints equal bytes
 abbrev pub PrintsTheSame : (Text → Line) → Type 0
 PrintsTheSame command =
-    (files others : Files) (name another : Text) (printed again : List ℕ) (kept none : Kept)
+    (files others : Files) (name another : Text) (acts again : List Act)
     → IsSameFile files name others another
-    → Makes (command name) (Some files) printed kept
-    → Makes (command another) (Some others) again none
-    → printed ≡ again
+    → answers (command name) (Some files) (Ok acts)
+    → answers (command another) (Some others) (Ok again)
+    → printed_by acts ≡ printed_by again

@@ -1,9 +1,14 @@
 -- Which files a command may replace, and when it holds the place of one.
-use Rattle.std.specs.Prelude.{◌≡◌, ◌==◌, ◌||◌, ◌&&◌, ℕ, Bool, false, not, nat_eq, List, IfSome}
+use Rattle.std.specs.Prelude.{◌≡◌, ◌⊎◌, ◌+◌, ◌%◌, ◌^◌, ◌==◌, ◌||◌, ◌&&◌, ℕ, Bool, false, not, nat_eq, List, IfSome}
 use Rattle.std.specs.Prelude.{IsTrue, ⊤}
 use Rattle.std.specs.Prelude.{Option, None, Some, Result, Ok, Err, codes, length}
 use Rattle.std.specs.List.{starts_with}
+use Rattle.ssim_command_line.specs.Line.{Text}
+use Rattle.ssim_program.specs.Answer.{Answer}
 use Rattle.ssim_program.specs.Files.{Files, file_of}
+use Rattle.ssim_program.specs.print.Refusal.{IsOfFile, SaysBusy, SaysOccupied}
+use Rattle.ssim_program.specs.declared.refusal.Refusal.{Refusal}
+use Rattle.ssim_program.specs.declared.refusal.Refusal.TheVariants as refused
 use Rattle.ssim_program.specs.declared.content_kind.ContentKind.{ContentKind}
 use Rattle.ssim_program.specs.declared.content_kind.ContentKind.TheVariants as kind
 use Rattle.ssim_program.specs.declared.store.HoldFault.{HoldFault}
@@ -45,3 +50,27 @@ HoldsFile files name kept (Err fault.Memory) = ⊤
 HoldsFile files name kept (Err fault.Occupied) = IsOccupied files name kept
 HoldsFile files name kept (Err fault.Fault) = files ≡ None
 HoldsFile files name kept (Err fault.Busy) = files ≡ None
+
+-- Why the file of a name is not held for what a command keeps: memory ran out; or the file may not
+-- be replaced, and the refusal is 93 with the name; or, of a store whose files the contract cannot
+-- see, another command holds the file (92), or it cannot be read (91).
+abbrev pub RefusesHold : Option Files → Text → ContentKind → Refusal → Type 0
+RefusesHold files name kept refusal =
+    (refusal ≡ refused.Memory)
+    ⊎ (SaysOccupied name refusal × IsOccupied files name kept)
+    ⊎ (SaysBusy name refusal × (files ≡ None))
+    ⊎ (IsOfFile name refusal × (files ≡ None))
+
+-- Why a file is not kept, by the count of the store's failures: memory ran out; or the store
+-- counted one failure more, and the refusal is 91 with the name; or the file changed after it was
+-- held, and the refusal is 92 with the name.
+abbrev pub RefusesKeep : ℕ → ℕ → Text → Refusal → Type 0
+RefusesKeep old new name refusal =
+    ((refusal ≡ refused.Memory) × (new ≡ old))
+    ⊎ (IsOfFile name refusal × (new ≡ (old + 1) % 2 ^ 64))
+    ⊎ (SaysBusy name refusal × (new ≡ old))
+
+-- the place of a file that is kept, which replaces none of another kind
+abbrev pub place_in : Option Files → List ℕ → ContentKind → Answer (Unit {0})
+place_in files name kept (Ok x) = MayReplace files name kept
+place_in files name kept (Err why) = RefusesHold files name kept why

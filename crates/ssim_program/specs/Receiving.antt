@@ -2,7 +2,7 @@
 -- them.
 use Rattle.std.specs.Prelude.{◌≡◌, ◌⊎◌, ℕ, ◌+◌, ◌-◌, Bool, true, false, IfSome, List, [], ◌∷◌, ◌++◌}
 use Rattle.std.specs.Prelude.{Option}
-use Rattle.std.specs.Prelude.{Some, None, codes, length, nat_le, if◌then◌else◌}
+use Rattle.std.specs.Prelude.{Some, None, Result, Ok, Err, codes, length, nat_le, if◌then◌else◌}
 use Rattle.std.specs.Fmt.{decimal}
 use Rattle.std.specs.List.{count_by, flat_map, list_any}
 use Rattle.std.specs.Str.{bytes_eq}
@@ -21,10 +21,12 @@ use Rattle.ssim_desk.specs.Steps.{RefusesText}
 use Rattle.ssim_desk.specs.declared.desk.Took.{Took}
 use Rattle.ssim_desk.specs.declared.desk.Took.TheVariants as took
 use Rattle.ssim_command_line.specs.Line.{Text}
-use Rattle.ssim_program.specs.Desks.{IsTaken, ReadsDesk, RefusesHold, took_printed}
-use Rattle.ssim_program.specs.Files.{Files, Kept, file_of}
+use Rattle.ssim_program.specs.Acts.{Act, Keep}
+use Rattle.ssim_program.specs.Answer.{Answer, Finds, ◌>>=◌}
+use Rattle.ssim_program.specs.Desks.{IsTaken, desk_in, took_printed}
+use Rattle.ssim_program.specs.Files.{Files, file_of}
 use Rattle.ssim_program.specs.Made.{HasFile, IsMissing, file_limit}
-use Rattle.ssim_program.specs.Places.{MayReplace}
+use Rattle.ssim_program.specs.Places.{MayReplace, RefusesHold}
 use Rattle.ssim_program.specs.print.Names.{printed_name}
 use Rattle.ssim_program.specs.print.PrintedLine.{printed_text}
 use Rattle.ssim_program.specs.print.Refusal.{SaysOccupied, place_text, refusal_head}
@@ -161,11 +163,6 @@ refused_text _ = []
 abbrev pub refused_texts : List Receipt → List ℕ
 refused_texts receipts = flat_map refused_text receipts
 
--- the file of the refused texts, if a name is given
-abbrev pub file_of_refused : Option Text → List ℕ → Kept
-file_of_refused None texts = []
-file_of_refused (Some name) texts = (name, texts) ∷ []
-
 -- the file for refused texts is none of these, if the contract can see the files
 abbrev pub IsApart : Option Files → Text → List Text → Type 0
 IsApart files refused names = IfSome files (λ all. list_any (bytes_eq refused) names ≡ false)
@@ -197,18 +194,21 @@ RefusesPlaces files (Some refused) file out names refusal =
     ⊎ (MayReplace files out kind.DeskFile
     × RefusesRefused files refused (out ∷ file ∷ names) refusal)
 
--- The desk in a file receives the files of these names. The lines of all receipts are printed. The
--- refused texts are kept, if a name is given, and then the desk with all that it took; its messages
--- are in order of reference. No file of another kind is replaced.
-pub record Receives (files : Option Files) (refused : Option Text) (file out : Text)
-    (names : List Text) (printed : List ℕ) (kept : Kept) : Type 0 where
-  pub before : DeskSeen
-  pub after : DeskSeen
-  pub reads : ReadsDesk files file before
-  pub receipts : List Receipt
-  pub received : ReceivesEach files names before receipts after
-  pub rising : AreRising after.held
-  pub printed_is : printed ≡ receipt_lines receipts
-  pub kept_is : kept ≡ file_of_refused refused (refused_texts receipts)
-      ++ (out, desk_file after.base after.held) ∷ []
-  pub may : MayReceive files refused file out names
+-- the places of the files that `receive` keeps
+abbrev pub places_in : Option Files → Option Text → Text → Text → List Text → Answer (Unit {0})
+places_in files refused file out names (Ok x) = MayReceive files refused file out names
+places_in files refused file out names (Err why) = RefusesPlaces files refused file out names why
+
+-- The desk in a file receives the files of these names: what became of each text, and the desk
+-- afterwards. Its messages are in order of reference.
+abbrev pub received : Option Files → Text → List Text → Answer (List Receipt × DeskSeen)
+received files file names = do
+  before ← desk_in files file
+  Finds (λ (result : List Receipt × DeskSeen). ReceivesEach files names before result.0 result.1
+      × AreRising result.1.held)
+
+-- the refused texts are kept, if a name is given, and then the desk
+abbrev pub received_files : Option Text → Text → List Receipt → DeskSeen → List Act
+received_files None out receipts after = Keep out (desk_file after.base after.held) ∷ []
+received_files (Some refused) out receipts after =
+    Keep refused (refused_texts receipts) ∷ Keep out (desk_file after.base after.held) ∷ []

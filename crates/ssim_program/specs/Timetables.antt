@@ -1,5 +1,5 @@
 -- The timetable in a file, which is a desk file or a data set.
-use Rattle.std.specs.Prelude.{◌≡◌, ◌⊎◌, List, [], ◌∷◌, ℕ, IfSome, Option, Ok, if◌then◌else◌}
+use Rattle.std.specs.Prelude.{◌≡◌, ◌⊎◌, List, [], ◌∷◌, ℕ, IfSome, Option, Result, Ok, Err, if◌then◌else◌}
 use Rattle.std.specs.Prelude.{codes, nat_eq}
 use Rattle.std.specs.List.{starts_with}
 use Rattle.ssim_base.specs.BaseSeen.{base_with}
@@ -10,6 +10,7 @@ use Rattle.ssim_records.specs.declared.record.Record.{Record}
 use Rattle.ssim_records.specs.declared.record.Record.TheVariants.{Header, Carrier}
 use Rattle.ssim_held.specs.Entries.{DeskSeen}
 use Rattle.ssim_command_line.specs.Line.{Text}
+use Rattle.ssim_program.specs.Answer.{Answer, Finds}
 use Rattle.ssim_program.specs.Desks.{ReadsDesk, RefusesDeskFile}
 use Rattle.ssim_program.specs.Files.{Files, file_of}
 use Rattle.ssim_program.specs.Made.{ReadsFile, RefusesFile, RefusesLoad}
@@ -41,16 +42,25 @@ ReadsTimetable files name desk =
     (BeginsAs kind.Desk files name × ReadsDesk files name desk)
     ⊎ (BeginsAs kind.DataSet files name × ReadsAsDesk files name desk)
 
--- why no timetable is read of a file: the file is not loaded; or it begins as a desk file, and is
--- none (62); or it is no data set
+-- Why no timetable is read of a file: the file is not loaded; or it begins as a desk file, and is
+-- none (62); or it is no data set.
 abbrev pub RefusesTimetable : Option Files → Text → Refusal → Type 0
 RefusesTimetable files name refusal =
     RefusesLoad files name refusal
     ⊎ (BeginsAs kind.Desk files name × RefusesDeskFile files name refusal)
     ⊎ (BeginsAs kind.DataSet files name × RefusesFile files name refusal)
 
+-- the desk whose timetable the file of this name has
+abbrev pub timetable_in : Option Files → Text → Answer DeskSeen
+timetable_in files name (Ok desk) = ReadsTimetable files name desk
+timetable_in files name (Err why) = RefusesTimetable files name why
+
 -- a base begins with a header and this carrier record
 abbrev pub HasCarrier : List Record → CarrierFields → Type 0
 HasCarrier base carrier =
     (header : HeaderFields) × (later : List Record)
     × (base ≡ Header header ∷ Carrier carrier ∷ later)
+
+-- the carrier record of a base
+abbrev pub carrier_of : List Record → Answer CarrierFields
+carrier_of base = Finds (HasCarrier base)

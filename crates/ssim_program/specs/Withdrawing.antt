@@ -1,5 +1,5 @@
 -- What `withdraw` makes of a desk and prints, and which words it refuses.
-use Rattle.std.specs.Prelude.{◌≡◌, ◌⊎◌, ℕ, Bool, true, false, List, [], ◌∷◌, ◌++◌, Some, slice_get}
+use Rattle.std.specs.Prelude.{◌≡◌, ◌⊎◌, ℕ, Bool, true, false, List, [], ◌∷◌, ◌++◌, Some, slice_get, Result, Ok, Err}
 use Rattle.std.specs.FinMap.{contains_key, remove}
 use Rattle.ssim_base.specs.Export.{line}
 use Rattle.ssim_text.specs.Reference.{SpellsReference}
@@ -7,6 +7,7 @@ use Rattle.ssim_text.specs.declared.reference.Reference.{Reference}
 use Rattle.ssim_held.specs.Entries.{DeskSeen, map_of}
 use Rattle.ssim_held.specs.Held.{HeldMessages}
 use Rattle.ssim_command_line.specs.Line.{Text}
+use Rattle.ssim_program.specs.Answer.{Answer}
 use Rattle.ssim_program.specs.print.PrintedLine.{printed_text}
 use Rattle.ssim_program.specs.declared.print.printed_line.PrintedLine.{PrintedLine}
 use Rattle.ssim_program.specs.declared.print.printed_line.PrintedLine.TheVariants as printed
@@ -46,6 +47,11 @@ HasNoReference words = (n : ℕ) × (word : Text) × (slice_get words n ≡ Some
 abbrev pub RefusesReferences : List Text → Refusal → Type 0
 RefusesReferences words refusal =
     (refusal ≡ refused.Memory) ⊎ ((refusal ≡ refused.Reference) × HasNoReference words)
+
+-- the messages of these references are withdrawn: the desk afterwards, and the lines
+abbrev pub withdrawn : List Text → DeskSeen → Answer (DeskSeen × List ℕ)
+withdrawn words desk (Ok left) = WithdrawsFrom words desk left.0 left.1
+withdrawn words desk (Err why) = RefusesReferences words why
 
 -- one of the words spells the reference
 abbrev pub IsNamed : List Text → Reference → Type 0

@@ -6,4 +6,3 @@ pub mod Shown
 pub mod Listing
 pub mod Calendar
 pub mod Paper
-pub mod Reasons

@@ -1,12 +1,10 @@
 //! The desk in a file.
 
-ghost use Rattle.std.specs.Prelude.{◌≡◌, [], ◌∷◌, IfErr, IfOk, IfSome, OnErr, OnOk, Option};
-ghost use Rattle.ssim_held.specs.File.{desk_file};
-ghost use Rattle.ssim_program.specs.Desks.{ReadsDesk, RefusesDeskFile, RefusesKeep};
-ghost use Rattle.ssim_program.specs.Files.{Files, IsOpened, with_kept};
+ghost use Rattle.std.specs.Prelude.{◌≡◌, IfErr, IfOk, IfSome, Option};
+ghost use Rattle.ssim_program.specs.Desks.{ReadsDesk, RefusesDeskFile};
+ghost use Rattle.ssim_program.specs.Files.{Files, IsOpened};
 
 use crate::data_set::{LIMIT, open_file};
-use crate::hold::keep_content;
 use crate::refusal::Refusal;
 use crate::store::Store;
 use ssim_desk::{DeskFault, Holdings, Intake};
@@ -66,22 +64,4 @@ pub(crate) fn read_desk<F: Source + Drop>(
             _ => Err(Refusal::from(fault)),
         },
     }
-}
-
-/// Keeps the desk file of what a desk holds in the file that is held.
-pub(crate) fn keep<S: Store>(
-    alloc: Global,
-    holdings: &Holdings,
-    place: &S::Hold,
-    store: &mut S,
-) -> Result<(), Refusal>
-    ensures kept { OnOk result (S.files store.new ≡ with_kept
-        ((S.Hold.file place.now, desk_file holdings.now.base holdings.now.held) ∷ [])
-        (S.files store.old)) }
-    ensures same { OnErr result (S.files store.new ≡ S.files store.old) }
-    ensures counted { OnOk result (S.failures store.new ≡ S.failures store.old) }
-    ensures why { IfErr result
-        (RefusesKeep (S.failures store.old) (S.failures store.new) (S.Hold.file place.now)) }
-{
-    keep_content(alloc, holdings, place, store)
 }

@@ -5,9 +5,9 @@ ghost use Rattle.std.specs.Fmt.{decimal};
 ghost use Rattle.ssim_base.specs.Export.{line};
 ghost use Rattle.ssim_values.specs.Characters.{two_digits_of};
 ghost use Rattle.ssim_program.specs.Explained.{BeginsWith, ExplainsFile, ExplainsNumber, number_in};
-ghost use Rattle.ssim_command_line.specs.Line.{Explain};
 ghost use Rattle.ssim_program.specs.Made.{RefusesLoad};
-ghost use Rattle.ssim_program.specs.internal.Program.{Prepares, stored};
+ghost use Rattle.ssim_program.specs.Answers.{explain};
+ghost use Rattle.ssim_program.specs.internal.Program.{Answers};
 
 mod example;
 mod file;
@@ -30,9 +30,9 @@ pub(crate) fn explain<S: Store>(
     word: &str,
     store: &mut S,
 ) -> Result<Vec<u8>, Refusal>
-    ensures { Prepares (Explain word.now)
-        (stored (S.files store.old) (S.failures store.old))
-        (stored (S.files store.new) (S.failures store.new)) result }
+    ensures answer { Answers (explain (S.files store.old) word.now) result }
+    ensures same { S.files store.new ≡ S.files store.old }
+    ensures counted { S.failures store.new ≡ S.failures store.old }
 {
     match number_in(word.as_bytes()) {
         Some(number) => Ok(on_number(alloc, number)?),

@@ -1,9 +1,10 @@
 //! The files that a command holds before it reads any, and keeps.
 
-ghost use Rattle.std.specs.Prelude.{◌≡◌, IfErr, IfOk, IsTrue, OnErr, OnOk, ◌∷◌, []};
-ghost use Rattle.ssim_program.specs.Desks.{RefusesHold, RefusesKeep};
-ghost use Rattle.ssim_program.specs.Files.{with_kept};
-ghost use Rattle.ssim_program.specs.Places.{MayReplace};
+ghost use Rattle.std.specs.Prelude.{◌≡◌, IfErr, IfOk, IsTrue};
+ghost use Rattle.ssim_program.specs.Acts.{Keep};
+ghost use Rattle.ssim_program.specs.Places.{MayReplace, RefusesHold};
+ghost use Rattle.ssim_program.specs.World.{Acted, world};
+ghost use Rattle.ssim_program.specs.print.Paper.{Paper};
 
 use crate::content::Content;
 use crate::content_kind::ContentKind;
@@ -43,12 +44,9 @@ pub(crate) fn keep_content<S: Store, C: Content>(
     place: &S::Hold,
     store: &mut S,
 ) -> Result<(), Refusal>
-    ensures kept { OnOk result (S.files store.new
-        ≡ with_kept ((S.Hold.file place.now, C.bytes content.now) ∷ []) (S.files store.old)) }
-    ensures same { OnErr result (S.files store.new ≡ S.files store.old) }
-    ensures counted { OnOk result (S.failures store.new ≡ S.failures store.old) }
-    ensures why { IfErr result
-        (RefusesKeep (S.failures store.old) (S.failures store.new) (S.Hold.file place.now)) }
+    ensures { (out : Paper) → Acted (Keep (S.Hold.file place.now) (C.bytes content.now))
+        (world (S.files store.old) (S.failures store.old) out)
+        (world (S.files store.new) (S.failures store.new) out) result }
 {
     match store.keep(place, content) {
         Ok(()) => Ok(()),

@@ -5,7 +5,8 @@ ghost use Rattle.ssim_command_line.specs.Line.{Board, Calendar, Export, Findings
 ghost use Rattle.ssim_command_line.specs.Line.{Texts, Withdraw, Listing, Problems};
 ghost use Rattle.ssim_command_line.specs.declared.command_line.ListForm.{ListForm};
 ghost use Rattle.ssim_program.specs.Again.{TidiesOnce};
-ghost use Rattle.ssim_program.specs.Offices.{HoldsWhatWasBrought, OfficesAgree, PrintsTheSame};
+ghost use Rattle.ssim_program.specs.Offices.{CommandsAreEvents, HoldsWhatWasBrought};
+ghost use Rattle.ssim_program.specs.Offices.{OfficesAgree, PrintsTheSame};
 ghost use Rattle.ssim_program.specs.FirstProblem.{RefusalIsFirstProblem};
 ghost use Rattle.ssim_program.specs.Turns.{HoldsWhatCameInTurn, NothingHeldIsLost};
 ghost use Rattle.ssim_program.specs.Turns.{NothingTakenIsLost, TakesTurns};
@@ -104,3 +105,9 @@ pub fn refusal_is_first_problem()
 {
     frames_are_one();
 }
+
+/// Each call of the program on the words of a command is one event of a history of desk files: the
+/// command has done some of its acts, from the first on, and no file changes but those that it kept.
+pub fn commands_are_events()
+    ensures { CommandsAreEvents }
+{}

@@ -7,8 +7,9 @@ mod outcome;
 pub(crate) mod script;
 mod texts;
 
-ghost use Rattle.ssim_command_line.specs.Line.{Rehearse};
-ghost use Rattle.ssim_program.specs.internal.Program.{Prepares, stored};
+ghost use Rattle.std.specs.Prelude.{◌≡◌};
+ghost use Rattle.ssim_program.specs.Answers.{rehearse};
+ghost use Rattle.ssim_program.specs.internal.Program.{Answers};
 
 use crate::data_set::load_base;
 use crate::refusal::Refusal;
@@ -34,9 +35,9 @@ pub(crate) fn rehearse<S: Store>(
     script: &str,
     store: &mut S,
 ) -> Result<Vec<u8>, Refusal>
-    ensures { Prepares (Rehearse dataset.now stations.now script.now)
-        (stored (S.files store.old) (S.failures store.old))
-        (stored (S.files store.new) (S.failures store.new)) result }
+    ensures answer { Answers (rehearse (S.files store.old) dataset.now stations.now script.now) result }
+    ensures same { S.files store.new ≡ S.files store.old }
+    ensures counted { S.failures store.new ≡ S.failures store.old }
 {
     let (data_set, stations) = load_base(alloc, dataset, stations, store)?;
     let (count, steps) = load_steps(alloc, script, store)?;

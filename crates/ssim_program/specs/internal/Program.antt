@@ -1,56 +1,95 @@
--- What a command has made before it is printed, and what the program does with it.
-use Rattle.std.specs.Prelude.{Vec, ◌≡◌, ◌⊎◌, ℕ, true, [], ⊤, Option, None, Result, Ok, Err, false}
-use Rattle.ssim_program.specs.Effects.{Makes}
-use Rattle.ssim_program.specs.Files.{Files, Kept, with_kept}
-use Rattle.ssim_command_line.specs.Line.{Line, Tidy, Take, Receive, Export}
+-- What a command has made, and what the program does with it.
+use Rattle.std.specs.Prelude.{Vec, ◌≡◌, ◌⊎◌, ℕ, true, false, List, [], ◌∷◌, map, Option}
+use Rattle.std.specs.Prelude.{None, Some, Result, Ok, Err, ⊤}
+use Rattle.ssim_base.specs.Timetable.{days_of}
+use Rattle.ssim_desk.specs.Desk.{days_of_desk}
+use Rattle.ssim_held.specs.File.{desk_file}
+use Rattle.ssim_program.specs.Acts.{Act, Print, Keep, prints}
+use Rattle.ssim_program.specs.Again.{GrowsByItself}
+use Rattle.ssim_program.specs.Answer.{Answer}
+use Rattle.ssim_program.specs.Answers.{take_each}
+use Rattle.ssim_program.specs.Exports.{export_in}
+use Rattle.ssim_program.specs.Files.{Files}
+use Rattle.ssim_program.specs.Runs.{PrintsHelp, RefusesHelp, SaysWrong}
+use Rattle.ssim_program.specs.World.{PrintsRefusal}
 use Rattle.ssim_program.specs.print.Paper.{Paper}
-use Rattle.ssim_program.specs.print.Reasons.{PrintsRefusal}
-use Rattle.ssim_program.specs.declared.refusal.Refusal.{Refusal}
 use Rattle.ssim_program.specs.declared.refusal.Refusal.TheVariants as refused
 use Rattle.clap.specs.Values.{kind_of}
 use Rattle.ssim_command_line.specs.Usage.{is_help}
 use Rattle.ssim_command_line.specs.declared.command_line.LineFault.{LineFault}
 use Rattle.ssim_command_line.specs.declared.command_line.LineFault.TheVariants as fault
-use Rattle.ssim_program.specs.World.{World, world, paper, IsDone, Stops, IsRefused, EndsWithLine}
-use Rattle.ssim_program.specs.Help.{PrintsHelp, RefusesHelp, SaysWrong}
+use Rattle.ssim_program.specs.declared.made.Contents.{Contents}
+use Rattle.ssim_program.specs.declared.made.Contents.TheVariants as contents
+use Rattle.ssim_program.specs.declared.made.Kept.{Kept}
+use Rattle.ssim_program.specs.declared.made.Made.{Made}
+use Rattle.ssim_program.specs.declared.made.Made.TheVariants as made
+use Rattle.ssim_program.specs.declared.refusal.Refusal.{Refusal}
 
--- the commands that print all at once, after they have made it and kept their files
-abbrev pub PrintsAtOnce : Line → Type 0
-PrintsAtOnce (Tidy name) = ⊥
-PrintsAtOnce (Export file) = ⊥
-PrintsAtOnce (Take file out names) = ⊥
-PrintsAtOnce (Receive refused file out names) = ⊥
-PrintsAtOnce _ = ⊤
+-- the bytes are an answer, or the refusal is
+abbrev pub Answers : {A : Type 0} → Answer (List ℕ) → Result (Vec ℕ A) Refusal → Type 0
+Answers answer (Ok lines) = answer (Ok lines.items)
+Answers answer (Err why) = answer (Err why)
 
--- the files and the failures of a store, while no printer is used
-abbrev pub stored : Option Files → ℕ → World
-stored files failures = world files failures (paper None 0)
+-- the bytes of contents
+abbrev pub bytes_of : Contents → List ℕ
+bytes_of (contents.DeskFile desk) = desk_file desk.base desk.held
+bytes_of (contents.Bytes bytes) = bytes.items
 
--- the store of a world, and this printer
-abbrev pub printing : World → Paper → World
-printing w out = world w.files w.failures out
+-- the acts that keep the refused texts, if there is a place for them, and then a desk
+abbrev pub keeps : {H : Type 0} → (H → List ℕ) → Option (Kept H) → Kept H → List Act
+keeps file None desk = Keep (file desk.place) (bytes_of desk.contents) ∷ []
+keeps file (Some refused) desk =
+    Keep (file refused.place) (bytes_of refused.contents)
+    ∷ Keep (file desk.place) (bytes_of desk.contents) ∷ []
 
--- A command that prints all at once makes its lines and keeps its files, or it stops and no file
--- changes.
-abbrev pub Prepares : {A : Type 0} → Line → World → World → Result (Vec ℕ A) Refusal → Type 0
-Prepares line before after (Ok text) =
-    (kept : Kept) × Makes line before.files text.items kept
-    × (after.files ≡ with_kept kept before.files)
-    × (after.failures ≡ before.failures)
-Prepares line before after (Err refusal) =
-    Stops line before.files before.failures after.failures [] [] refusal
-    × (after.files ≡ before.files)
+-- what is done with what a command has made is an answer
+abbrev pub Makes : {H : Type 0} → (H → List ℕ) → Option Files → Answer (List Act) → Made H → Type 0
+Makes file files answer (made.Lines lines) = answer (Ok (Print lines.items ∷ []))
+Makes file files answer (made.Kept kept lines) =
+    answer (Ok (Keep (file kept.place) (bytes_of kept.contents) ∷ Print lines.items ∷ []))
+Makes file files answer (made.Received lines refused desk) =
+    answer (Ok (Print lines.items ∷ keeps file refused desk))
+Makes file files answer (made.DataSet set) = (result : Result (List Act) Refusal)
+    → prints (export_in set (days_of set)) result → answer result
+Makes file files answer (made.Desk desk) = (result : Result (List Act) Refusal)
+    → prints (export_in desk.base.records (days_of_desk desk)) result → answer result
+Makes file files answer (made.Texts place desk names) = (result : Result (List Act) Refusal)
+    → take_each files (file place) (map (λ t. t.now) names.now) desk result → answer result
 
--- a command is done, or refused
-abbrev pub Does : Line → World → World → Result (Unit {0}) Refusal → Type 0
-Does line before after (Ok x) = IsDone line before after
-Does line before after (Err refusal) = IsRefused line before after refusal
+-- the lines are what a command has made, or it is refused
+abbrev pub AreLines : {A H : Type 0} → Result (Vec ℕ A) Refusal → Result (Made H) Refusal → Type 0
+AreLines (Ok v) (Ok (made.Lines lines)) = lines.items ≡ v.items
+AreLines (Err why) (Err refusal) = refusal ≡ why
+AreLines _ _ = ⊥
 
--- the status is 0 if a command is done, and `err` is as it was; it is 1 if the command is refused
-abbrev pub Obeys : Line → World → World → Paper → Paper → ℕ → Type 0
-Obeys line before after err err' status =
-    ((status ≡ 0) × IsDone line before after × (err' ≡ err))
-    ⊎ ((status ≡ 1) × EndsWithLine line before after err err')
+-- exactly these acts
+abbrev pub exactly : List Act → Answer (List Act)
+exactly acts (Ok these) = these ≡ acts
+exactly acts (Err why) = ⊥
+
+-- what is done with what a command has made
+abbrev pub will : {H : Type 0} → (H → List ℕ) → Option Files → Made H → Answer (List Act)
+will file files (made.Lines lines) = exactly (Print lines.items ∷ [])
+will file files (made.Kept kept lines) =
+    exactly (Keep (file kept.place) (bytes_of kept.contents) ∷ Print lines.items ∷ [])
+will file files (made.Received lines refused desk) =
+    exactly (Print lines.items ∷ keeps file refused desk)
+will file files (made.DataSet set) = prints (export_in set (days_of set))
+will file files (made.Desk desk) = prints (export_in desk.base.records (days_of_desk desk))
+will file files (made.Texts place desk names) =
+    take_each files (file place) (map (λ t. t.now) names.now) desk
+
+-- what a data set or a desk prints is read as itself; nothing is said of other things made
+abbrev pub MadeItself : {H : Type 0} → Made H → Option (List ℕ) → Option (List ℕ) → Type 0
+MadeItself (made.DataSet set) before after = GrowsByItself before after
+MadeItself (made.Desk desk) before after = GrowsByItself before after
+MadeItself _ before after = ⊤
+
+-- a command has made an answer, or is refused as the answer says
+abbrev pub MakesOr : {H : Type 0} → (H → List ℕ) → Option Files → Answer (List Act)
+    → Result (Made H) Refusal → Type 0
+MakesOr file files answer (Ok m) = Makes file files answer m
+MakesOr file files answer (Err why) = answer (Err why)
 
 -- help is printed, with status 0, or refused, with status 1
 abbrev pub SaysHelp : Paper → Paper → Paper → Paper → ℕ → Type 0

@@ -1,16 +1,15 @@
 -- What contracts see of receipts, and what is done while files are received.
-use Rattle.std.specs.Prelude.{◌≡◌, ℕ, List, [], ◌∷◌, ◌++◌, Option, Result, Ok, Err}
+use Rattle.std.specs.Prelude.{◌≡◌, ℕ, List, [], ◌∷◌, ◌++◌, Option}
 use Rattle.std.specs.List.{count_by, flat_map}
 use Rattle.ssim_base.specs.Export.{line}
 use Rattle.ssim_mailbox.specs.Mail.{mail_of}
 use Rattle.ssim_held.specs.Entries.{AreRising, DeskSeen}
 use Rattle.ssim_command_line.specs.Line.{Text}
-use Rattle.ssim_program.specs.Desks.{ReadsDesk, RefusesKeep}
-use Rattle.ssim_program.specs.Files.{Files, Kept, with_kept}
+use Rattle.ssim_program.specs.Desks.{ReadsDesk}
+use Rattle.ssim_program.specs.Files.{Files}
 use Rattle.ssim_program.specs.Receiving.{Receipt, Accepted, Refused, Unread, ReceivesEach}
 use Rattle.ssim_program.specs.Receiving.{is_refused, is_repeated, is_taken, receipt_lines}
 use Rattle.ssim_program.specs.Receiving.{receipt_text, refused_texts}
-use Rattle.ssim_program.specs.declared.refusal.Refusal.{Refusal}
 use Rattle.ssim_program.specs.declared.command.receive.receipt.Receipt as code
 use Rattle.ssim_program.specs.declared.command.receive.receipt.Receipts.{Receipts}
 use Rattle.ssim_program.specs.declared.command.receive.receipt.Receipt.TheVariants as receipt
@@ -63,12 +62,3 @@ pub record HasReceived (files : Option Files) (file : Text) (names : List Text) 
   pub rising : AreRising after.held
   pub lines_are : lines ≡ receipt_lines receipts
   pub texts_are : refused ≡ refused_texts receipts
-
--- files are kept one after another; or one of them is not kept, but those before it are
-abbrev pub KeepsEach : Kept → Option Files → Option Files → ℕ → ℕ → Result (Unit {0}) Refusal
-    → Type 0
-KeepsEach kept old new n m (Ok x) = (new ≡ with_kept kept old) × (m ≡ n)
-KeepsEach kept old new n m (Err refusal) =
-    (first : Kept) × (name : Text) × (bytes : List ℕ) × (later : Kept)
-    × (kept ≡ first ++ (name, bytes) ∷ later) × (new ≡ with_kept first old)
-    × RefusesKeep n m name refusal

@@ -1,5 +1,5 @@
 -- What a printer has printed, and what a call of it leaves.
-use Rattle.std.specs.Prelude.{◌⊎◌, ℕ, Bool, List, Option}
+use Rattle.std.specs.Prelude.{◌⊎◌, ℕ, Bool, false, List, Option}
 use Rattle.ssim_records.specs.Device.{Writer}
 use Rattle.ssim_base.specs.Sinks as sink
 
@@ -10,6 +10,11 @@ pub record Paper : Type 0 where
   pub failures : ℕ
   pub flushed : Bool
   pub device : ℕ
+
+-- a new printer over a writer that holds these bytes
+abbrev pub new_paper : Option (List ℕ) → ℕ → Paper
+new_paper contents device =
+    record { taken = contents; failures = 0; flushed = false; device = device }
 
 -- a printer as a sink
 abbrev pub writer_of : Paper → Writer

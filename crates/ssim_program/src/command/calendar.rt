@@ -1,14 +1,11 @@
 //! The command `calendar`: the dates of a flight as a picture of weeks, and its itineraries.
 
-ghost use Rattle.std.specs.Prelude.{◌≡◌, [], ◌∷◌, ◌++◌, ◌≤◌, codes, length, map, IfErr, IfOk};
+ghost use Rattle.std.specs.Prelude.{◌≡◌, [], ◌∷◌, ◌++◌, ◌≤◌, codes, length, map, IfOk};
 ghost use Rattle.ssim_values.specs.Designator.{designator_text};
-ghost use Rattle.ssim_base.specs.Base.{airline_of};
 ghost use Rattle.ssim_base.specs.Export.{line};
 ghost use Rattle.ssim_calendar.specs.Legend.{texts_of};
-ghost use Rattle.ssim_command_line.specs.Line.{Calendar};
-ghost use Rattle.ssim_program.specs.Calendars.{ShowsCalendar};
-ghost use Rattle.ssim_program.specs.Messages.{RefusesFlights};
-ghost use Rattle.ssim_program.specs.internal.Program.{Prepares, stored};
+ghost use Rattle.ssim_program.specs.Answers.{calendar};
+ghost use Rattle.ssim_program.specs.internal.Program.{Answers};
 ghost use Rattle.ssim_program.specs.print.Calendar.{calendar_lines, drawn, drawn_or_none};
 ghost use Rattle.ssim_program.specs.print.Calendar.{is_like_any, legend_text, lettered};
 
@@ -17,7 +14,6 @@ use crate::refusal::Refusal;
 use crate::store::Store;
 use crate::timetable_file::open_timetable;
 use ssim_calendar::{push_legend, push_picture};
-use ssim_desk::Holdings;
 use ssim_listing::{is_like_one, mark_of, push_leg_text};
 use ssim_periods::Periods;
 use ssim_schedule::{Itinerary, PlacedLeg};
@@ -34,21 +30,12 @@ pub(crate) fn calendar<S: Store>(
     flight: &str,
     store: &mut S,
 ) -> Result<Vec<u8>, Refusal>
-    ensures { Prepares (Calendar file.now flight.now)
-        (stored (S.files store.old) (S.failures store.old))
-        (stored (S.files store.new) (S.failures store.new)) result }
+    ensures answer { Answers (calendar (S.files store.old) file.now flight.now) result }
+    ensures same { S.files store.new ≡ S.files store.old }
+    ensures counted { S.failures store.new ≡ S.failures store.old }
 {
     let desk = open_timetable(alloc, file, store)?;
-    shown(alloc, &desk, flight)
-}
-
-/// The calendar of the flight that the word names.
-fn shown(alloc: Global, desk: &Holdings, word: &str) -> Result<Vec<u8>, Refusal>
-    ensures ok { IfOk result (λ lines. ShowsCalendar desk.now word.now lines.items) }
-    ensures err { IfErr result
-        (RefusesFlights (airline_of desk.now.base.records) (word.now ∷ [])) }
-{
-    let designator = named_flight(alloc, desk.data_set().airline(), word)?;
+    let designator = named_flight(alloc, desk.data_set().airline(), flight)?;
     let days = desk.days(&designator.flight)?;
     let lines = lines_of(alloc, designator, &days)?;
     Ok(lines)

@@ -1,7 +1,8 @@
 //! The command `check`: notes on a data set, and a summary.
 
-ghost use Rattle.ssim_command_line.specs.Line.{Check};
-ghost use Rattle.ssim_program.specs.internal.Program.{Prepares, stored};
+ghost use Rattle.std.specs.Prelude.{◌≡◌};
+ghost use Rattle.ssim_program.specs.Answers.{check};
+ghost use Rattle.ssim_program.specs.internal.Program.{Answers};
 
 use crate::data_set::load_summary;
 use crate::print::note::lines_on;
@@ -11,9 +12,9 @@ use std::alloc::Global;
 
 /// The notes on the data set in the file of this name, and a summary.
 pub(crate) fn check<S: Store>(alloc: Global, name: &str, store: &mut S) -> Result<Vec<u8>, Refusal>
-    ensures { Prepares (Check name.now)
-        (stored (S.files store.old) (S.failures store.old))
-        (stored (S.files store.new) (S.failures store.new)) result }
+    ensures answer { Answers (check (S.files store.old) name.now) result }
+    ensures same { S.files store.new ≡ S.files store.old }
+    ensures counted { S.failures store.new ≡ S.failures store.old }
 {
     let summary = load_summary(alloc, name, store)?;
     let lines = lines_on(alloc, &summary)?;

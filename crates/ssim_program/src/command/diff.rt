@@ -1,18 +1,18 @@
 //! The command `diff`: on which dates the timetables of two files differ.
 
-ghost use Rattle.std.specs.Prelude.{◌≡◌, ◌≢◌, ◌⊎◌, IfErr, IfOk, false, true};
+ghost use Rattle.std.specs.Prelude.{◌≡◌, IfErr, IfOk};
 ghost use Rattle.ssim_held.specs.Entries.{DeskSeen};
-ghost use Rattle.ssim_command_line.specs.Line.{Diff};
-ghost use Rattle.ssim_program.specs.Differences.{PrintsDifferences, RefusesComparison};
 ghost use Rattle.ssim_program.specs.Timetables.{ReadsTimetable, RefusesTimetable};
 ghost use Rattle.ssim_program.specs.internal.Diff.{HasFlights};
-ghost use Rattle.ssim_program.specs.internal.Program.{Prepares, stored};
+ghost use Rattle.ssim_program.specs.Answers.{diff, differences};
+ghost use Rattle.ssim_program.specs.internal.Program.{Answers};
 
 use crate::refusal::Refusal;
 use crate::store::Store;
 use crate::timetable_file::{carrier_of, open_timetable};
-use ssim_desk::{DeskFault, Holdings};
+use ssim_desk::Holdings;
 use ssim_difference::difference_lines;
+use ssim_outbox::compare;
 use ssim_records::Carrier;
 use ssim_schedule::FlightPieces;
 use ssim_values::Memory;
@@ -33,9 +33,9 @@ pub(crate) fn diff<S: Store>(
     to: &str,
     store: &mut S,
 ) -> Result<Vec<u8>, Refusal>
-    ensures { Prepares (Diff from.now to.now)
-        (stored (S.files store.old) (S.failures store.old))
-        (stored (S.files store.new) (S.failures store.new)) result }
+    ensures answer { Answers (diff (S.files store.old) from.now to.now) result }
+    ensures same { S.files store.new ≡ S.files store.old }
+    ensures counted { S.failures store.new ≡ S.failures store.old }
 {
     let old = open_flights(alloc, from, store)?;
     let desk = open_timetable(alloc, to, store)?;
@@ -68,27 +68,11 @@ fn flights_of(desk: Holdings) -> Result<Timetable, Memory>
 
 /// The dates on which the timetable of a desk differs from an old one.
 fn compared(alloc: Global, old: &Timetable, desk: Holdings) -> Result<Vec<u8>, Refusal>
-    ensures ok { (before : DeskSeen)
-        → HasFlights before old.now.carrier old.now.flights.items
-        → IfOk result (λ lines. PrintsDifferences before desk lines.items) }
-    ensures err { (before : DeskSeen)
-        → HasFlights before old.now.carrier old.now.flights.items
-        → IfErr result (RefusesComparison before desk) }
+    ensures { (before : DeskSeen) → HasFlights before old.now.carrier old.now.flights.items
+        → Answers (differences before desk) result }
 {
     let new = flights_of(desk)?;
-    if are_comparable(&old.carrier, &new.carrier) {
-        let lines = difference_lines(alloc, old.carrier.airline(), &old.flights, &new.flights)?;
-        return Ok(lines);
-    }
-    Err(Refusal::from(DeskFault::OtherBase))
-}
-
-/// Whether two carrier records have the same airline and the same time mode.
-fn are_comparable(old: &Carrier, new: &Carrier) -> bool
-    ensures same { result ≡ true
-        → (new.now.airline ≡ old.now.airline) × (new.now.time_mode ≡ old.now.time_mode) }
-    ensures other { result ≡ false
-        → (new.now.airline ≢ old.now.airline) ⊎ (new.now.time_mode ≢ old.now.time_mode) }
-{
-    new.airline() == old.airline() && new.time_mode() == old.time_mode()
+    compare(&old.carrier, &new.carrier)?;
+    let lines = difference_lines(alloc, old.carrier.airline(), &old.flights, &new.flights)?;
+    Ok(lines)
 }

@@ -1,55 +1,28 @@
 //! The command `export`: the schedule of a desk as a data set.
 
-ghost use Rattle.std.specs.Prelude.{◌≡◌, List};
-ghost use Rattle.ssim_values.specs.Flight.{FlightNumber};
-ghost use Rattle.ssim_records.specs.declared.record.Record.{Record};
-ghost use Rattle.ssim_base.specs.Base.{airline_of};
-ghost use Rattle.ssim_base.specs.Timetable.{Days};
-ghost use Rattle.ssim_program.specs.internal.Export.{IsWritten, PrintsExport};
-ghost use Rattle.ssim_command_line.specs.Line.{Export};
-ghost use Rattle.ssim_program.specs.print.Paper.{Paper};
-ghost use Rattle.ssim_program.specs.World.{world};
-ghost use Rattle.ssim_program.specs.internal.Program.{Does};
+ghost use Rattle.std.specs.Prelude.{◌≡◌, IfOk, List, Option, ℕ};
+ghost use Rattle.ssim_program.specs.Again.{GrowsByItself};
+ghost use Rattle.ssim_program.specs.Answers.{export};
+ghost use Rattle.ssim_program.specs.internal.Program.{MadeItself, MakesOr};
 
 use crate::desk_file::open_holdings;
-use crate::print::printer::Printer;
+use crate::made::Made;
 use crate::refusal::Refusal;
 use crate::store::Store;
-use ssim_schedule::ExportFault;
-use ssim_values::Airline;
 use std::alloc::Global;
-use std::io::Write;
 
-/// Prints the canonical export of the desk in the file of this name.
-pub(crate) fn export<S: Store, W: Write>(
+/// The desk in the file of this name, to be exported.
+pub(crate) fn export<'n, S: Store>(
     alloc: Global,
     name: &str,
     store: &mut S,
-    out: &mut Printer<'_, W>,
-) -> Result<(), Refusal>
-    ensures { Does (Export name.now) (world (S.files store.old) (S.failures store.old) out.old)
-        (world (S.files store.new) (S.failures store.new) out.new) result }
+) -> Result<Made<'n, S::Hold>, Refusal>
+    ensures answer { MakesOr S.Hold.file (S.files store.old) (export (S.files store.old) name.now) result }
+    ensures same { S.files store.new ≡ S.files store.old }
+    ensures counted { S.failures store.new ≡ S.failures store.old }
+    ensures again { IfOk result (λ made. (before after : Option (List ℕ))
+        → MadeItself made before after → GrowsByItself before after) }
 {
-    let holdings = open_holdings(alloc, name, store)?;
-    let airline = holdings.data_set().airline();
-    let written = holdings.export(out);
-    end_export(airline, written, out)
-}
-
-/// Flushes `out` after an export of this airline's flights was written to it; or makes the refusal
-/// of the export's fault.
-pub(crate) fn end_export<W: Write>(
-    airline: Airline,
-    written: Result<(), ExportFault>,
-    out: &mut Printer<'_, W>,
-) -> Result<(), Refusal>
-    // The export is one of these days over this base, and the printer was `before` when it began.
-    ensures { (base : List Record) (days : FlightNumber → Days) (before : Paper)
-        → airline ≡ airline_of base → IsWritten base days before out.old written
-        → PrintsExport base days before out.new result }
-{
-    match written {
-        Ok(()) => out.flush(),
-        Err(fault) => Err(Refusal::of_export(airline, fault)),
-    }
+    let desk = open_holdings(alloc, name, store)?;
+    Ok(Made::Desk(desk))
 }

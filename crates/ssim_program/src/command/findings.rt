@@ -1,7 +1,8 @@
 //! The command `findings`: what each sub-message of a desk found.
 
-ghost use Rattle.ssim_command_line.specs.Line.{Findings};
-ghost use Rattle.ssim_program.specs.internal.Program.{Prepares, stored};
+ghost use Rattle.std.specs.Prelude.{◌≡◌};
+ghost use Rattle.ssim_program.specs.Answers.{findings};
+ghost use Rattle.ssim_program.specs.internal.Program.{Answers};
 
 use crate::desk_file::open_holdings;
 use crate::print::finding::lines_of;
@@ -15,9 +16,9 @@ pub(crate) fn findings<S: Store>(
     file: &str,
     store: &mut S,
 ) -> Result<Vec<u8>, Refusal>
-    ensures { Prepares (Findings file.now)
-        (stored (S.files store.old) (S.failures store.old))
-        (stored (S.files store.new) (S.failures store.new)) result }
+    ensures answer { Answers (findings (S.files store.old) file.now) result }
+    ensures same { S.files store.new ≡ S.files store.old }
+    ensures counted { S.failures store.new ≡ S.failures store.old }
 {
     let desk = open_holdings(alloc, file, store)?;
     let lines = lines_of(alloc, &desk)?;

@@ -1,13 +1,10 @@
 //! The command `list`: the flights of a desk or a data set, with their periods or date by date.
 
-ghost use Rattle.std.specs.Prelude.{◌≡◌, IfErr, IfOk, map};
-ghost use Rattle.ssim_base.specs.Base.{airline_of};
+ghost use Rattle.std.specs.Prelude.{◌≡◌, IfOk, map};
 ghost use Rattle.ssim_schedule.specs.FlightPieces.{divided_among};
 ghost use Rattle.ssim_desk.specs.Desk.{days_of_desk};
-ghost use Rattle.ssim_command_line.specs.Line.{Listing};
-ghost use Rattle.ssim_program.specs.Listing.{Lists, chosen};
-ghost use Rattle.ssim_program.specs.Messages.{RefusesFlights};
-ghost use Rattle.ssim_program.specs.internal.Program.{Prepares, stored};
+ghost use Rattle.ssim_program.specs.Answers.{chosen, list};
+ghost use Rattle.ssim_program.specs.internal.Program.{Answers};
 ghost use Rattle.ssim_program.specs.print.Listing.{printed_list};
 
 use crate::command::named_flights::named_flights;
@@ -29,22 +26,13 @@ pub(crate) fn list<S: Store>(
     flights: &[&str],
     store: &mut S,
 ) -> Result<Vec<u8>, Refusal>
-    ensures { Prepares (Listing form file.now (map (λ t. t.now) flights.now))
-        (stored (S.files store.old) (S.failures store.old))
-        (stored (S.files store.new) (S.failures store.new)) result }
+    ensures answer { Answers (list (S.files store.old) form file.now (map (λ t. t.now) flights.now)) result }
+    ensures same { S.files store.new ≡ S.files store.old }
+    ensures counted { S.failures store.new ≡ S.failures store.old }
 {
     let desk = open_timetable(alloc, file, store)?;
-    shown(alloc, form, desk, flights)
-}
-
-/// The flights that the words choose.
-fn shown(alloc: Global, form: ListForm, desk: Holdings, words: &[&str]) -> Result<Vec<u8>, Refusal>
-    ensures ok { IfOk result (λ lines. Lists desk form (map (λ t. t.now) words.now) lines.items) }
-    ensures err { IfErr result
-        (RefusesFlights (airline_of desk.base.records) (map (λ t. t.now) words.now)) }
-{
     let airline = desk.data_set().airline();
-    let flights = named_flights(alloc, airline, words)?;
+    let flights = named_flights(alloc, airline, flights)?;
     let divided = chosen(alloc, desk, &flights)?;
     let lines = printed(alloc, form, airline, &divided)?;
     Ok(lines)

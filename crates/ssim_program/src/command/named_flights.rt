@@ -1,9 +1,9 @@
 //! The flights that words of the command line name.
 
-ghost use Rattle.std.specs.Prelude.{◌≡◌, ◌⊎◌, [], ◌∷◌, All, IfErr, IfOk, false, map, true};
+ghost use Rattle.std.specs.Prelude.{◌≡◌, ◌⊎◌, [], ◌∷◌, All, Err, IfErr, IfOk, List, Ok, false, map, true};
+ghost use Rattle.ssim_values.specs.declared.designator.Designator.{Designator};
 ghost use Rattle.ssim_values.specs.declared.fault.Fault.TheVariants as value_fault;
-ghost use Rattle.ssim_program.specs.Messages.{HasNoFlight, HasOther, IsOf, NameFlights};
-ghost use Rattle.ssim_program.specs.Messages.{RefusesFlights, SpellEach};
+ghost use Rattle.ssim_program.specs.Messages.{IsOf, SpellEach, flights_in};
 ghost use Rattle.ssim_program.specs.declared.refusal.Refusal.TheVariants as refused;
 
 use crate::refusal::Refusal;
@@ -18,8 +18,8 @@ pub(crate) fn named_flight(
     airline: Airline,
     word: &str,
 ) -> Result<Designator, Refusal>
-    ensures ok { IfOk result (λ flight. NameFlights airline (word.now ∷ []) (flight ∷ [])) }
-    ensures err { IfErr result (RefusesFlights airline (word.now ∷ [])) }
+    ensures ok { IfOk result (λ flight. flights_in airline (word.now ∷ []) (Ok (flight ∷ []))) }
+    ensures err { IfErr result (λ why. flights_in airline (word.now ∷ []) (Err why)) }
 {
     let flights = named_flights(alloc, airline, &[word])?;
     let Some(flight) = flights.first() else {
@@ -35,8 +35,8 @@ pub(crate) fn named_flights(
     words: &[&str],
 ) -> Result<Vec<Designator>, Refusal>
     ensures ok { IfOk result (λ flights.
-        NameFlights airline (map (λ t. t.now) words.now) flights.items) }
-    ensures err { IfErr result (RefusesFlights airline (map (λ t. t.now) words.now)) }
+        flights_in airline (map (λ t. t.now) words.now) (Ok flights.items)) }
+    ensures err { IfErr result (λ why. flights_in airline (map (λ t. t.now) words.now) (Err why)) }
 {
     let flights = designators(alloc, words)?;
     if has_other(airline, &flights) {
@@ -50,7 +50,7 @@ fn designators(alloc: Global, words: &[&str]) -> Result<Vec<Designator>, Refusal
     ensures ok { IfOk result (λ flights. SpellEach (map (λ t. t.now) words.now) flights.items) }
     ensures err { IfErr result (λ refusal. (refusal ≡ refused.Memory)
         ⊎ ((refusal ≡ refused.Value value_fault.BadDesignator)
-        × HasNoFlight (map (λ t. t.now) words.now))) }
+        × ((flights : List Designator) → SpellEach (map (λ t. t.now) words.now) flights → ⊥))) }
 {
     let mut flights = Vec::with_capacity(alloc, words.len())?;
     for word in words {
@@ -62,7 +62,7 @@ fn designators(alloc: Global, words: &[&str]) -> Result<Vec<Designator>, Refusal
 
 /// Whether one of the flights is another airline's.
 fn has_other(airline: Airline, flights: &[Designator]) -> bool
-    ensures other { result ≡ true → HasOther airline flights.now }
+    ensures other { result ≡ true → All (IsOf airline) flights.now → ⊥ }
     ensures none { result ≡ false → All (IsOf airline) flights.now }
 {
     for flight in flights {

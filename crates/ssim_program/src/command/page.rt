@@ -1,9 +1,8 @@
 //! The command `page`: a timetable as one page of HTML.
 
 ghost use Rattle.std.specs.Prelude.{◌≡◌};
-ghost use Rattle.ssim_command_line.specs.Line.{Page};
-ghost use Rattle.ssim_program.specs.Pages.{heading_of};
-ghost use Rattle.ssim_program.specs.internal.Program.{Prepares, stored};
+ghost use Rattle.ssim_program.specs.Answers.{heading_of, page};
+ghost use Rattle.ssim_program.specs.internal.Program.{Answers};
 
 use crate::refusal::Refusal;
 use crate::store::Store;
@@ -14,9 +13,9 @@ use std::alloc::Global;
 
 /// The page of the timetable of the desk, or of the data set, in a file.
 pub(crate) fn page<S: Store>(alloc: Global, file: &str, store: &mut S) -> Result<Vec<u8>, Refusal>
-    ensures { Prepares (Page file.now)
-        (stored (S.files store.old) (S.failures store.old))
-        (stored (S.files store.new) (S.failures store.new)) result }
+    ensures answer { Answers (page (S.files store.old) file.now) result }
+    ensures same { S.files store.new ≡ S.files store.old }
+    ensures counted { S.failures store.new ≡ S.failures store.old }
 {
     let desk = open_timetable(alloc, file, store)?;
     let heading = heading_of(&carrier_of(&desk));

@@ -1,7 +1,8 @@
 //! The command `problems`: every invalid record of a data set.
 
-ghost use Rattle.ssim_command_line.specs.Line.{Problems};
-ghost use Rattle.ssim_program.specs.internal.Program.{Prepares, stored};
+ghost use Rattle.std.specs.Prelude.{◌≡◌};
+ghost use Rattle.ssim_program.specs.Answers.{problems};
+ghost use Rattle.ssim_program.specs.internal.Program.{Answers};
 
 use crate::data_set::load_problems;
 use crate::print::problem::lines_of;
@@ -15,9 +16,9 @@ pub(crate) fn problems<S: Store>(
     name: &str,
     store: &mut S,
 ) -> Result<Vec<u8>, Refusal>
-    ensures { Prepares (Problems name.now)
-        (stored (S.files store.old) (S.failures store.old))
-        (stored (S.files store.new) (S.failures store.new)) result }
+    ensures answer { Answers (problems (S.files store.old) name.now) result }
+    ensures same { S.files store.new ≡ S.files store.old }
+    ensures counted { S.failures store.new ≡ S.failures store.old }
 {
     let problems = load_problems(alloc, name, store)?;
     let lines = lines_of(alloc, &problems)?;

@@ -3,34 +3,28 @@
 mod mailboxes;
 mod receipt;
 
-ghost use Rattle.std.specs.Prelude.{◌≡◌, ◌⊎◌, ◌++◌, [], ◌∷◌, IfErr, IfOk, IfSome, IsTrue, map};
-ghost use Rattle.std.specs.Prelude.{option_map};
+ghost use Rattle.std.specs.Prelude.{◌≡◌, ◌∷◌, Err, IfErr, IfOk, IfSome, IsTrue, map, option_map};
 ghost use Rattle.std.specs.List.{list_any};
 ghost use Rattle.std.specs.Str.{bytes_eq};
-ghost use Rattle.ssim_held.specs.File.{desk_file};
-ghost use Rattle.ssim_command_line.specs.Line.{Receive};
-ghost use Rattle.ssim_program.specs.Desks.{RefusesDeskFile};
+ghost use Rattle.ssim_program.specs.Answers.{receive};
 ghost use Rattle.ssim_program.specs.Places.{MayReplace};
-ghost use Rattle.ssim_program.specs.Receiving.{IsApart, MayReceive, RefusesRefused};
-ghost use Rattle.ssim_program.specs.Receiving.{file_of_refused};
-ghost use Rattle.ssim_program.specs.World.{world};
-ghost use Rattle.ssim_program.specs.internal.Program.{Does};
-ghost use Rattle.ssim_program.specs.internal.Receive.{HasReceived, KeepsEach};
+ghost use Rattle.ssim_program.specs.Receiving.{IsApart, MayReceive, RefusesPlaces, RefusesRefused, received};
+ghost use Rattle.ssim_program.specs.internal.Program.{MakesOr};
+ghost use Rattle.ssim_program.specs.internal.Receive.{HasReceived};
 ghost use Rattle.ssim_program.specs.declared.content_kind.ContentKind.TheVariants as kind;
-ghost use Rattle.ssim_program.specs.declared.refusal.Refusal.TheVariants as refused;
+ghost use Rattle.ssim_program.specs.declared.made.Contents.TheVariants as contents;
 
 use crate::command::receive::mailboxes::receive_files;
 use crate::content_kind::ContentKind;
-use crate::desk_file::{keep, open_intake};
-use crate::hold::{hold, keep_content};
-use crate::print::printer::{Printer, print_all};
+use crate::desk_file::open_intake;
+use crate::hold::hold;
+use crate::made::{Contents, Kept, Made};
 use crate::refusal::Refusal;
 use crate::store::{Hold, Store};
 use ssim_desk::Holdings;
 use std::alloc::Global;
-use std::io::Write;
 
-/// What a desk has received.
+/// What became of the texts of mailbox files at a desk.
 #[derive(Drop)]
 struct Received {
     /// The desk with all that it took.
@@ -50,8 +44,8 @@ fn received_by<S: Store>(
 ) -> Result<Received, Refusal>
     ensures ok { IfOk result (λ r. HasReceived (S.files store.old) file.now
         (map (λ t. t.now) names.now) r.desk r.lines.items r.refused.items) }
-    ensures err { IfErr result (λ refusal. RefusesDeskFile (S.files store.old) file.now refusal
-        ⊎ (refusal ≡ refused.Memory)) }
+    ensures err { IfErr result (λ why. received (S.files store.old) file.now
+        (map (λ t. t.now) names.now) (Err why)) }
     ensures same { S.files store.new ≡ S.files store.old }
     ensures counted { S.failures store.new ≡ S.failures store.old }
 {
@@ -65,13 +59,6 @@ fn received_by<S: Store>(
         lines,
         refused,
     })
-}
-
-/// The files that `receive` holds: the file for refused texts, if one is named, and the desk's.
-#[derive(Drop)]
-struct Places<H: Hold + Drop> {
-    refused: Option<H>,
-    desk: H,
 }
 
 /// Whether the file for refused texts is one that the command reads or keeps.
@@ -122,86 +109,90 @@ fn hold_refused<S: Store>(
     hold(alloc, refused, ContentKind::RefusedTexts, store)
 }
 
-/// Keeps the refused texts, if a file is held for them.
-fn keep_refused<S: Store>(
+/// The places that `receive` holds: for the refused texts, if a file is named for them, and for the
+/// desk.
+#[derive(Drop)]
+struct Places<H: Hold + Drop> {
+    refused: Option<H>,
+    desk: H,
+}
+
+/// Holds the files that `receive` keeps: first the desk's, then that of refused texts.
+fn hold_places<S: Store>(
     alloc: Global,
-    texts: &Vec<u8>,
-    places: &Places<S::Hold>,
+    refused: Option<&str>,
+    file: &str,
+    out: &str,
+    names: &[&str],
     store: &mut S,
-) -> Result<(), Refusal>
-    ensures { KeepsEach (file_of_refused (option_map S.Hold.file places.now.refused) texts.now.items)
-        (S.files store.old) (S.files store.new) (S.failures store.old) (S.failures store.new) result }
+) -> Result<Places<S::Hold>, Refusal>
+    requires fresh { IsTrue (S.is_fresh store.now) }
+    ensures names { IfOk result (λ places. (S.Hold.file places.desk ≡ out.now)
+        × (option_map S.Hold.file places.refused ≡ option_map (λ t. t.now) refused.entry)) }
+    ensures held { IfOk result (λ _. MayReceive (S.files store.old)
+        (option_map (λ t. t.now) refused.entry) file.now out.now (map (λ t. t.now) names.now)) }
+    ensures refused { IfErr result (RefusesPlaces (S.files store.old)
+        (option_map (λ t. t.now) refused.entry) file.now out.now (map (λ t. t.now) names.now)) }
+    ensures same { S.files store.new ≡ S.files store.old }
+    ensures counted { S.failures store.new ≡ S.failures store.old }
 {
-    match &places.refused {
-        Some(place) => keep_content(alloc, texts, place, store),
-        None => Ok(()),
+    let desk = hold(alloc, out, ContentKind::DeskFile, store)?;
+    match refused {
+        None => Ok(Places {
+            refused: None,
+            desk,
+        }),
+        Some(name) => {
+            let place = hold_refused(alloc, name, file, out, names, store)?;
+            Ok(Places {
+                refused: Some(place),
+                desk,
+            })
+        }
     }
 }
 
-/// Keeps the refused texts, if a file is held for them, and then the desk file.
-fn keep_both<S: Store>(
-    alloc: Global,
-    received: &Received,
-    places: &Places<S::Hold>,
-    store: &mut S,
-) -> Result<(), Refusal>
-    ensures { KeepsEach (file_of_refused (option_map S.Hold.file places.now.refused)
-        received.now.refused.items
-        ++ (S.Hold.file places.now.desk, desk_file received.now.desk.base received.now.desk.held) ∷ [])
-        (S.files store.old) (S.files store.new) (S.failures store.old) (S.failures store.new) result }
+/// The refused texts, if a place is held for them.
+fn kept_texts<H: Hold + Drop>(place: Option<H>, texts: Vec<u8>) -> Option<Kept<H>>
+    ensures { result ≡ option_map (λ p. record { place = p; contents = contents.Bytes texts }) place }
 {
-    keep_refused(alloc, &received.refused, places, store)?;
-    keep(alloc, &received.desk, &places.desk, store)
+    let place = place?;
+    let contents = Contents::Bytes(texts);
+    Some(Kept { place, contents })
 }
 
-/// Tries the texts of mailbox files at the desk in a file, prints what became of each, and keeps the
-/// refused texts and the desk file in the files that are held.
-fn receive_in<S: Store, W: Write>(
-    alloc: Global,
-    file: &str,
-    names: &[&str],
-    places: &Places<S::Hold>,
-    store: &mut S,
-    out: &mut Printer<'_, W>,
-) -> Result<(), Refusal>
-    ensures { MayReceive (S.files store.old) (option_map S.Hold.file places.now.refused) file.now
-        (S.Hold.file places.now.desk) (map (λ t. t.now) names.now)
-        → Does (Receive (option_map S.Hold.file places.now.refused) file.now
-        (S.Hold.file places.now.desk) (map (λ t. t.now) names.now))
-        (world (S.files store.old) (S.failures store.old) out.old)
-        (world (S.files store.new) (S.failures store.new) out.new) result }
-{
-    let received = received_by(alloc, file, names, store)?;
-    print_all(out, &received.lines)?;
-    keep_both(alloc, &received, places, store)
-}
-
-/// Tries the texts of mailbox files at the desk in a file, and prints what became of each. Then
-/// keeps the refused texts, if a file is named for them, and the desk file.
+/// Tries the texts of mailbox files at the desk in a file. The lines say what became of each; then
+/// the refused texts are kept, if a file is named for them, and then the desk file.
 ///
 /// The file for refused texts has to be new or empty, and none that the command reads or keeps. A
 /// text that is refused, with 90 too, is a line, and so is a file that cannot be read. If there is
 /// no memory for the texts of a file or for the lines, the command is refused with 90.
-pub(crate) fn receive<S: Store, W: Write>(
+pub(crate) fn receive<'n, S: Store>(
     alloc: Global,
     refused: Option<&str>,
     file: &str,
-    kept: &str,
+    out: &str,
     names: &[&str],
     store: &mut S,
-    out: &mut Printer<'_, W>,
-) -> Result<(), Refusal>
+) -> Result<Made<'n, S::Hold>, Refusal>
     requires fresh { IsTrue (S.is_fresh store.now) }
-    ensures { Does (Receive (option_map (λ t. t.now) refused.entry) file.now kept.now
-        (map (λ t. t.now) names.now))
-        (world (S.files store.old) (S.failures store.old) out.old)
-        (world (S.files store.new) (S.failures store.new) out.new) result }
+    ensures answer { MakesOr S.Hold.file (S.files store.old)
+        (receive (S.files store.old) (option_map (λ t. t.now) refused.entry) file.now out.now
+        (map (λ t. t.now) names.now)) result }
+    ensures same { S.files store.new ≡ S.files store.old }
+    ensures counted { S.failures store.new ≡ S.failures store.old }
 {
-    let desk = hold(alloc, kept, ContentKind::DeskFile, store)?;
-    let refused = match refused {
-        Some(name) => Some(hold_refused(alloc, name, file, kept, names, store)?),
-        None => None,
+    let places = hold_places(alloc, refused, file, out, names, store)?;
+    let received = received_by(alloc, file, names, store)?;
+    let lines = received.lines;
+    let refused = kept_texts(places.refused, received.refused);
+    let desk = Kept {
+        place: places.desk,
+        contents: Contents::DeskFile(received.desk),
     };
-    let places = Places { refused, desk };
-    receive_in(alloc, file, names, &places, store, out)
+    Ok(Made::Received {
+        lines,
+        refused,
+        desk,
+    })
 }

@@ -2,9 +2,10 @@
 
 ghost use Rattle.std.specs.Prelude.{◌≡◌, None, Some, IfErr, IfOk};
 ghost use Rattle.ssim_text.specs.Lines.{day_in};
-ghost use Rattle.ssim_program.specs.Desks.{NamesDate, RefusesFlight, Shows};
-ghost use Rattle.ssim_command_line.specs.Line.{Show};
-ghost use Rattle.ssim_program.specs.internal.Program.{Prepares, stored};
+ghost use Rattle.ssim_base.specs.Base.{airline_of};
+ghost use Rattle.ssim_program.specs.Answers.{show};
+ghost use Rattle.ssim_program.specs.Desks.{flight_date};
+ghost use Rattle.ssim_program.specs.internal.Program.{Answers};
 
 use crate::desk_file::open_holdings;
 use crate::print::legs::lines_of;
@@ -23,20 +24,12 @@ pub(crate) fn show_flight<S: Store>(
     date: &str,
     store: &mut S,
 ) -> Result<Vec<u8>, Refusal>
-    ensures { Prepares (Show file.now flight.now date.now)
-        (stored (S.files store.old) (S.failures store.old))
-        (stored (S.files store.new) (S.failures store.new)) result }
+    ensures answer { Answers (show (S.files store.old) file.now flight.now date.now) result }
+    ensures same { S.files store.new ≡ S.files store.old }
+    ensures counted { S.failures store.new ≡ S.failures store.old }
 {
     let desk = open_holdings(alloc, file, store)?;
-    shown(alloc, &desk, flight, date)
-}
-
-/// The lines of the flight that the words name.
-fn shown(alloc: Global, desk: &Holdings, flight: &str, date: &str) -> Result<Vec<u8>, Refusal>
-    ensures ok { IfOk result (λ lines. Shows desk.now flight.now date.now lines.items) }
-    ensures err { IfErr result (RefusesFlight desk.now flight.now date.now) }
-{
-    let (designator, day) = flight_date(desk, flight, date)?;
+    let (designator, day) = flight_date(&desk, flight, date)?;
     let legs = desk.itinerary(&designator.flight, day)?;
     let lines = lines_of(alloc, designator, day, &legs)?;
     Ok(lines)
@@ -48,8 +41,7 @@ pub(crate) fn flight_date(
     flight: &str,
     date: &str,
 ) -> Result<(Designator, Day), Refusal>
-    ensures ok { IfOk result (λ named. NamesDate desk.now flight.now date.now named.0 named.1) }
-    ensures err { IfErr result (RefusesFlight desk.now flight.now date.now) }
+    ensures { flight_date (airline_of desk.now.base.records) flight.now date.now result }
 {
     let designator = Designator::parse(flight.as_bytes())?;
     let day = day_in(date)?;

@@ -1,16 +1,14 @@
 //! The command `start`: a desk that holds nothing.
 
 ghost use Rattle.std.specs.Prelude.{◌≡◌, IfOk, IsTrue};
+ghost use Rattle.ssim_program.specs.Answers.{start};
 ghost use Rattle.ssim_program.specs.Desks.{held_line};
-ghost use Rattle.ssim_command_line.specs.Line.{Start};
-ghost use Rattle.ssim_program.specs.Places.{MayReplace};
-ghost use Rattle.ssim_program.specs.internal.Program.{Prepares, stored};
-ghost use Rattle.ssim_program.specs.declared.content_kind.ContentKind.TheVariants as kind;
+ghost use Rattle.ssim_program.specs.internal.Program.{MakesOr};
 
 use crate::content_kind::ContentKind;
 use crate::data_set::load_base;
-use crate::desk_file::keep;
 use crate::hold::hold;
+use crate::made::{Contents, Kept, Made};
 use crate::print::printed_line::{PrintedLine, line_of};
 use crate::refusal::Refusal;
 use crate::store::Store;
@@ -18,43 +16,29 @@ use ssim_desk::Holdings;
 use ssim_values::Memory;
 use std::alloc::Global;
 
-/// Keeps the desk file of a data set and a station table: the line `held 0`.
-pub(crate) fn start<S: Store>(
+/// A desk over a data set and a station table, and the line `held 0`.
+pub(crate) fn start<'n, S: Store>(
     alloc: Global,
     dataset: &str,
     stations: &str,
-    name: &str,
+    out: &str,
     store: &mut S,
-) -> Result<Vec<u8>, Refusal>
+) -> Result<Made<'n, S::Hold>, Refusal>
     requires fresh { IsTrue (S.is_fresh store.now) }
-    ensures { Prepares (Start dataset.now stations.now name.now)
-        (stored (S.files store.old) (S.failures store.old))
-        (stored (S.files store.new) (S.failures store.new)) result }
+    ensures answer { MakesOr S.Hold.file (S.files store.old)
+        (start (S.files store.old) dataset.now stations.now out.now) result }
+    ensures same { S.files store.new ≡ S.files store.old }
+    ensures counted { S.failures store.new ≡ S.failures store.old }
 {
-    let place = hold(alloc, name, ContentKind::DeskFile, store)?;
-    start_in(alloc, dataset, stations, &place, store)
-}
-
-/// Keeps the desk file of a data set and a station table in the file that is held.
-fn start_in<S: Store>(
-    alloc: Global,
-    dataset: &str,
-    stations: &str,
-    place: &S::Hold,
-    store: &mut S,
-) -> Result<Vec<u8>, Refusal>
-    ensures { MayReplace (S.files store.old) (S.Hold.file place.now) kind.DeskFile
-        → Prepares (Start dataset.now stations.now (S.Hold.file place.now))
-        (stored (S.files store.old) (S.failures store.old))
-        (stored (S.files store.new) (S.failures store.new)) result }
-{
+    let place = hold(alloc, out, ContentKind::DeskFile, store)?;
     let (data_set, stations) = load_base(alloc, dataset, stations, store)?;
     let desk = Holdings::start(alloc, data_set, stations);
     // No effect at run time. The proof reads from this use what is always true of a base.
     let _ = desk.base().records();
-    let line = held_line(alloc, 0)?;
-    keep(alloc, &desk, place, store)?;
-    Ok(line)
+    let lines = held_line(alloc, 0)?;
+    let contents = Contents::DeskFile(desk);
+    let kept = Kept { place, contents };
+    Ok(Made::Kept { kept, lines })
 }
 
 /// The line `held n`.

@@ -3,18 +3,17 @@
 ghost use Rattle.std.specs.Prelude.{◌≡◌, IfErr, IfOk, IsTrue, map};
 ghost use Rattle.ssim_held.specs.Entries.{state_of};
 ghost use Rattle.ssim_desk.specs.Steps.{RefusesText};
+ghost use Rattle.ssim_program.specs.Answers.{take, take_each};
 ghost use Rattle.ssim_program.specs.Desks.{IsTaken, took_printed};
-ghost use Rattle.ssim_program.specs.internal.Take.{PrintsTexts, TakesOrRefuses};
-ghost use Rattle.ssim_command_line.specs.Line.{Take};
-ghost use Rattle.ssim_program.specs.Places.{MayReplace};
-ghost use Rattle.ssim_program.specs.World.{world};
-ghost use Rattle.ssim_program.specs.internal.Program.{Does};
-ghost use Rattle.ssim_program.specs.declared.content_kind.ContentKind.TheVariants as kind;
+ghost use Rattle.ssim_program.specs.World.{Does, world};
+ghost use Rattle.ssim_program.specs.internal.Program.{MakesOr};
+ghost use Rattle.ssim_program.specs.internal.Take.{TakesOrRefuses};
 
 use crate::content_kind::ContentKind;
 use crate::data_set::load_file;
-use crate::desk_file::{keep, open_intake};
-use crate::hold::hold;
+use crate::desk_file::open_intake;
+use crate::hold::{hold, keep_content};
+use crate::made::Made;
 use crate::print::printed_line::{PrintedLine, line_of};
 use crate::print::printer::{Printer, print_all};
 use crate::refusal::Refusal;
@@ -24,70 +23,52 @@ use ssim_text::Reference;
 use std::alloc::Global;
 use std::io::Write;
 
-/// Takes the texts in these files at the desk in a file, prints what became of each, and at last
-/// keeps the desk file. At the first refusal it stops, and keeps nothing.
-pub(crate) fn take<S: Store, W: Write>(
+/// The files of texts that the desk in a file is to take. The files are not read yet.
+pub(crate) fn take<'n, S: Store>(
     alloc: Global,
     file: &str,
-    kept: &str,
-    names: &[&str],
+    out: &str,
+    names: &'n [&'n str],
     store: &mut S,
-    out: &mut Printer<'_, W>,
-) -> Result<(), Refusal>
+) -> Result<Made<'n, S::Hold>, Refusal>
     requires fresh { IsTrue (S.is_fresh store.now) }
-    ensures { Does (Take file.now kept.now (map (λ t. t.now) names.now))
-        (world (S.files store.old) (S.failures store.old) out.old)
-        (world (S.files store.new) (S.failures store.new) out.new) result }
-{
-    let place = hold(alloc, kept, ContentKind::DeskFile, store)?;
-    take_in(alloc, file, &place, names, store, out)
-}
-
-/// Takes the texts in these files at the desk in a file, prints what became of each, and then keeps
-/// the desk file in the file that is held.
-fn take_in<S: Store, W: Write>(
-    alloc: Global,
-    file: &str,
-    place: &S::Hold,
-    names: &[&str],
-    store: &mut S,
-    out: &mut Printer<'_, W>,
-) -> Result<(), Refusal>
-    ensures { MayReplace (S.files store.old) (S.Hold.file place.now) kind.DeskFile
-        → Does (Take file.now (S.Hold.file place.now) (map (λ t. t.now) names.now))
-        (world (S.files store.old) (S.failures store.old) out.old)
-        (world (S.files store.new) (S.failures store.new) out.new) result }
-{
-    let mut desk = open_intake(alloc, file, store)?;
-    take_texts(alloc, &mut desk, names, store, out)?;
-    out.flush()?;
-    let desk = desk.finish()?;
-    // No effect at run time. The proof reads from this use that the messages are in order.
-    let _ = desk.held();
-    keep(alloc, &desk, place, store)
-}
-
-/// Takes the texts in these files, and prints what became of each.
-fn take_texts<S: Store, W: Write>(
-    alloc: Global,
-    desk: &mut Intake,
-    names: &[&str],
-    store: &mut S,
-    out: &mut Printer<'_, W>,
-) -> Result<(), Refusal>
-    ensures texts { PrintsTexts (S.files store.old) (map (λ t. t.now) names.now) desk.old desk.new
-        out.old out.new result }
+    ensures answer { MakesOr S.Hold.file (S.files store.old)
+        (take (S.files store.old) file.now out.now (map (λ t. t.now) names.entry.now)) result }
     ensures same { S.files store.new ≡ S.files store.old }
     ensures counted { S.failures store.new ≡ S.failures store.old }
 {
+    let place = hold(alloc, out, ContentKind::DeskFile, store)?;
+    let desk = open_intake(alloc, file, store)?;
+    Ok(Made::Texts { place, desk, names })
+}
+
+/// Takes the texts in these files one after another, prints what became of each, and at last keeps
+/// the desk file. At the first refusal it stops, and keeps nothing.
+pub(crate) fn take_texts<S: Store, W: Write>(
+    alloc: Global,
+    place: &S::Hold,
+    desk: Intake,
+    names: &[&str],
+    store: &mut S,
+    out: &mut Printer<'_, W>,
+) -> Result<(), Refusal>
+    ensures { Does (take_each (S.files store.old) (S.Hold.file place.now)
+        (map (λ t. t.now) names.now) desk)
+        (world (S.files store.old) (S.failures store.old) out.old)
+        (world (S.files store.new) (S.failures store.new) out.new) result }
+{
+    let mut desk = desk;
     for name in names {
-        let line = match take_text(alloc, desk, name, store) {
+        let line = match take_text(alloc, &mut desk, *name, store) {
             Ok(line) => line,
             Err(refusal) => return Err(refusal),
         };
         print_all(out, &line)?;
     }
-    Ok(())
+    let desk = desk.finish()?;
+    // No effect at run time. The proof reads from this use that the messages are in order.
+    let _ = desk.held();
+    keep_content(alloc, &desk, place, store)
 }
 
 /// Takes the text in this file. Returns the line that says what became of it.

@@ -1,20 +1,19 @@
 //! The command `texts`: the messages that a desk holds, as their canonical texts.
 
-ghost use Rattle.std.specs.Prelude.{◌≡◌, ◌++◌, [], ◌∷◌, if◌then◌else◌, IfErr, IfOk, OnOk, map};
+ghost use Rattle.std.specs.Prelude.{◌≡◌, ◌++◌, [], ◌∷◌, if◌then◌else◌, IfOk, OnOk, map};
 ghost use Rattle.std.specs.List.{list_any};
 ghost use Rattle.ssim_base.specs.Timetable.{same_flight};
 ghost use Rattle.ssim_text.specs.Canonical.{canonical};
-ghost use Rattle.ssim_base.specs.Base.{airline_of};
-ghost use Rattle.ssim_command_line.specs.Line.{Texts};
-ghost use Rattle.ssim_program.specs.Messages.{RefusesFlights, ShowsTexts, is_chosen, message_texts};
+ghost use Rattle.ssim_program.specs.Messages.{is_chosen, message_texts};
 ghost use Rattle.ssim_program.specs.Messages.{messages_on, names_one};
-ghost use Rattle.ssim_program.specs.internal.Program.{Prepares, stored};
+ghost use Rattle.ssim_program.specs.Answers.{texts};
+ghost use Rattle.ssim_program.specs.internal.Program.{Answers};
 
 use crate::command::named_flights::named_flights;
 use crate::desk_file::open_holdings;
 use crate::refusal::Refusal;
 use crate::store::Store;
-use ssim_desk::{Held, Holdings};
+use ssim_desk::Held;
 use ssim_values::{Designator, Flight, Memory};
 use std::alloc::Global;
 
@@ -26,22 +25,12 @@ pub(crate) fn texts<S: Store>(
     flights: &[&str],
     store: &mut S,
 ) -> Result<Vec<u8>, Refusal>
-    ensures { Prepares (Texts file.now (map (λ t. t.now) flights.now))
-        (stored (S.files store.old) (S.failures store.old))
-        (stored (S.files store.new) (S.failures store.new)) result }
+    ensures answer { Answers (texts (S.files store.old) file.now (map (λ t. t.now) flights.now)) result }
+    ensures same { S.files store.new ≡ S.files store.old }
+    ensures counted { S.failures store.new ≡ S.failures store.old }
 {
     let desk = open_holdings(alloc, file, store)?;
-    shown(alloc, &desk, flights)
-}
-
-/// The texts of the messages that the words choose.
-fn shown(alloc: Global, desk: &Holdings, words: &[&str]) -> Result<Vec<u8>, Refusal>
-    ensures ok { IfOk result (λ texts.
-        ShowsTexts desk.now (map (λ t. t.now) words.now) texts.items) }
-    ensures err { IfErr result
-        (RefusesFlights (airline_of desk.now.base.records) (map (λ t. t.now) words.now)) }
-{
-    let flights = named_flights(alloc, desk.data_set().airline(), words)?;
+    let flights = named_flights(alloc, desk.data_set().airline(), flights)?;
     let texts = texts_of(alloc, desk.held(), &flights)?;
     Ok(texts)
 }

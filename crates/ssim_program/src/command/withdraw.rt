@@ -3,15 +3,14 @@
 ghost use Rattle.std.specs.Prelude.{◌≡◌, ◌++◌, IfErr, IfOk, IsTrue, map};
 ghost use Rattle.std.specs.FinMap.{contains_key, remove};
 ghost use Rattle.ssim_held.specs.Entries.{map_of};
-ghost use Rattle.ssim_command_line.specs.Line.{Withdraw};
 ghost use Rattle.ssim_program.specs.Withdrawing.{RefusesReferences, WithdrawsFrom, withdrawn_printed};
-ghost use Rattle.ssim_program.specs.Places.{MayReplace};
-ghost use Rattle.ssim_program.specs.internal.Program.{Prepares, stored};
-ghost use Rattle.ssim_program.specs.declared.content_kind.ContentKind.TheVariants as kind;
+ghost use Rattle.ssim_program.specs.Answers.{withdraw};
+ghost use Rattle.ssim_program.specs.internal.Program.{MakesOr};
 
 use crate::content_kind::ContentKind;
-use crate::desk_file::{keep, open_intake};
+use crate::desk_file::open_intake;
 use crate::hold::hold;
+use crate::made::{Contents, Kept, Made};
 use crate::print::printed_line::{PrintedLine, add_line};
 use crate::refusal::Refusal;
 use crate::store::Store;
@@ -19,44 +18,29 @@ use ssim_desk::Intake;
 use ssim_text::Reference;
 use std::alloc::Global;
 
-/// Keeps the desk file of the desk in a file without the messages of these references: a line for
-/// each reference.
-pub(crate) fn withdraw<S: Store>(
+/// The desk in a file without the messages of these references, and a line for each reference.
+pub(crate) fn withdraw<'n, S: Store>(
     alloc: Global,
     file: &str,
-    name: &str,
+    out: &str,
     words: &[&str],
     store: &mut S,
-) -> Result<Vec<u8>, Refusal>
+) -> Result<Made<'n, S::Hold>, Refusal>
     requires fresh { IsTrue (S.is_fresh store.now) }
-    ensures { Prepares (Withdraw file.now name.now (map (λ t. t.now) words.now))
-        (stored (S.files store.old) (S.failures store.old))
-        (stored (S.files store.new) (S.failures store.new)) result }
+    ensures answer { MakesOr S.Hold.file (S.files store.old)
+        (withdraw (S.files store.old) file.now out.now (map (λ t. t.now) words.now)) result }
+    ensures same { S.files store.new ≡ S.files store.old }
+    ensures counted { S.failures store.new ≡ S.failures store.old }
 {
-    let place = hold(alloc, name, ContentKind::DeskFile, store)?;
-    withdraw_in(alloc, file, &place, words, store)
-}
-
-/// Keeps the desk file without the messages of these references in the file that is held.
-fn withdraw_in<S: Store>(
-    alloc: Global,
-    file: &str,
-    place: &S::Hold,
-    words: &[&str],
-    store: &mut S,
-) -> Result<Vec<u8>, Refusal>
-    ensures { MayReplace (S.files store.old) (S.Hold.file place.now) kind.DeskFile
-        → Prepares (Withdraw file.now (S.Hold.file place.now) (map (λ t. t.now) words.now))
-        (stored (S.files store.old) (S.failures store.old))
-        (stored (S.files store.new) (S.failures store.new)) result }
-{
+    let place = hold(alloc, out, ContentKind::DeskFile, store)?;
     let mut desk = open_intake(alloc, file, store)?;
     let lines = withdraw_each(alloc, &mut desk, words)?;
     let desk = desk.finish()?;
     // No effect at run time. The proof reads from this use that the messages are in order.
     let _ = desk.held();
-    keep(alloc, &desk, place, store)?;
-    Ok(lines)
+    let contents = Contents::DeskFile(desk);
+    let kept = Kept { place, contents };
+    Ok(Made::Kept { kept, lines })
 }
 
 /// Withdraws the message of each reference that the words spell. Returns their lines.

@@ -1,23 +1,27 @@
--- The calendar is shown, or not.
-use Rattle.std.proofs.Common.{◌≡◌, ◌∷◌, [], Err, inl, inr, refl, rules}
+-- The word names a flight, or not.
+use Rattle.std.proofs.Common.{◌≡◌, ◌∙◌, ◌∷◌, [], Bor, Err, List, ℕ, Ok, Option, Result, Some, Vec, ap, ap₂, inl, inr, map, option_map, refl, rules, subst, sym, true≢false}
 use Rattle.ssim_base.specs.Base.{airline_of}
-use Rattle.ssim_command_line.specs.Line.{Calendar}
-use Rattle.ssim_program.specs.Calendars.{ShowsCalendar}
-use Rattle.ssim_program.specs.Messages.{RefusesFlights}
-use Rattle.ssim_program.proofs.Doing.{prepared, refused_before}
+use Rattle.ssim_base.specs.Timetable.{Legs}
+use Rattle.ssim_program.specs.Messages.{flights_in}
+use Rattle.ssim_program.specs.print.Calendar.{calendar_lines}
 use Rattle.ssim_program.proofs.command.calendar.calendar.Goals as goal
 
-pub returns-in_err-desk : goal.returns-in_err-desk
-returns-in_err-desk g c =
-    let refusal = c.in_err-desk.field-0.0 in
-    let is : c.from_residual.result ≡ Err refusal = search rules in
-    refused_before (Calendar c.args.file.now c.args.flight.now) (g.S.Store.files c.args.store.now) (g.S.Store.failures c.args.store.now) (g.S.Store.files c.open_timetable.new.store) (g.S.Store.failures c.open_timetable.new.store)
-    refusal c.from_residual.result is (refl, inl c.in_err-desk.ensures.refused) c.open_timetable.ensures.same c.open_timetable.ensures.counted
+pub returns-in_err-designator-clause-answer : goal.returns-in_err-designator-clause-answer
+returns-in_err-designator-clause-answer g c =
+    let why = c.in_err-designator.field-0.0 in
+    let here = c.airline.ensures ∙ ap airline_of c.data_set.ensures in
+    let is : c.from_residual-in_err-designator.result ≡ Err why = search rules in
+    rw is (inr (c.in_ok-desk.desk, c.in_ok-desk.ensures.read, inl (subst (λ (a : List ℕ). flights_in a (c.args.flight.now ∷ []) (Err why)) here c.in_err-designator.ensures.err)))
 
-pub returns : goal.returns
-returns g c =
-    let desk = c.in_ok-desk.desk in
-    let flight = c.args.flight.now in
-    prepared (Calendar c.args.file.now flight) (g.S.Store.files c.args.store.now) (g.S.Store.failures c.args.store.now) (g.S.Store.files c.open_timetable.new.store) (g.S.Store.failures c.open_timetable.new.store)
-    (ShowsCalendar desk flight) (RefusesFlights (airline_of desk.base.records) (flight ∷ [])) c.shown.result
-    (λ text shows. (desk, c.in_ok-desk.ensures.read, shows, refl)) (λ refusal why. (refl, inr (desk, c.in_ok-desk.ensures.read, why))) c.open_timetable.ensures.same c.open_timetable.ensures.counted c.shown.ensures.ok c.shown.ensures.err
+pub returns-clause-answer : goal.returns-clause-answer
+returns-clause-answer g c =
+    let designator = c.in_ok-designator.designator in
+    let here = c.airline.ensures ∙ ap airline_of c.data_set.ensures in (
+      c.in_ok-desk.desk,
+      c.in_ok-desk.ensures.read,
+      (
+        designator ∷ [],
+        subst (λ (a : List ℕ). flights_in a (c.args.flight.now ∷ []) (Ok (designator ∷ []))) here c.in_ok-designator.ensures.ok,
+        (designator, refl, c.in_ok-lines.ensures ∙ ap (λ (days : List Legs). calendar_lines designator days) c.in_ok-days.ensures),
+      ),
+    )

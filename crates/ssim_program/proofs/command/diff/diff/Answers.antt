@@ -1,40 +1,26 @@
 -- Both timetables are read and compared, or not.
-use Rattle.std.proofs.Common.{◌≡◌, ◌∙◌, Option, inl, inr, refl, subst, rules, Err}
-use Rattle.ssim_command_line.specs.Line.{Diff}
-use Rattle.ssim_program.specs.Differences.{PrintsDifferences, RefusesComparison}
+use Rattle.std.proofs.Common.{◌≡◌, ◌∙◌, ◌∷◌, [], Bor, Err, List, ℕ, Ok, Option, Result, Some, Vec, ap, ap₂, inl, inr, map, option_map, refl, rules, subst, sym, true≢false}
+use Rattle.ssim_program.specs.Answers.{diff, differences}
 use Rattle.ssim_program.specs.Files.{Files}
 use Rattle.ssim_program.specs.Timetables.{ReadsTimetable, RefusesTimetable}
-use Rattle.ssim_program.proofs.Doing.{prepared, refused_before}
+use Rattle.ssim_program.specs.internal.Program.{Answers}
+use Rattle.ssim_held.specs.Entries.{DeskSeen}
+use Rattle.ssim_command_line.specs.Line.{Text}
+use Rattle.ssim_program.specs.declared.refusal.Refusal.{Refusal}
 use Rattle.ssim_program.proofs.command.diff.diff.Goals as goal
 
-pub returns-in_err-desk : goal.returns-in_err-desk
-returns-in_err-desk g c =
-    let refusal = c.in_err-desk.field-0.0 in
-    let is : c.from_residual-in_err-desk.result ≡ Err refusal = search rules in
-    let read = c.in_ok-old.ensures.read in
-    let why = subst (λ (f : Option Files). RefusesTimetable f c.args.to.now refusal) c.open_flights.ensures.same c.in_err-desk.ensures.refused in
-    refused_before (Diff c.args.from.now c.args.to.now) (g.S.Store.files c.args.store.now) (g.S.Store.failures c.args.store.now) (g.S.Store.files c.open_timetable.new.store) (g.S.Store.failures c.open_timetable.new.store)
-    refusal c.from_residual-in_err-desk.result is (refl, inr (inl ((read.0, read.1), why)))
-    (c.open_timetable.ensures.same ∙ c.open_flights.ensures.same) (c.open_timetable.ensures.counted ∙ c.open_flights.ensures.counted)
+both : {A : Type 0} (files : Option Files) (from to : Text) (old new : DeskSeen) (r : Result (Vec ℕ A) Refusal) → ReadsTimetable files from old → ReadsTimetable files to new → Answers (differences old new) r → Answers (diff files from to) r
+both files from to old new (Ok lines) mine theirs differ = (old, mine, (new, theirs, differ))
+both files from to old new (Err why) mine theirs differ = inr (old, mine, inr (new, theirs, differ))
 
-pub returns-in_err-old : goal.returns-in_err-old
-returns-in_err-old g c =
-    let refusal = c.in_err-old.field-0.0 in
-    let is : c.from_residual.result ≡ Err refusal = search rules in
-    refused_before (Diff c.args.from.now c.args.to.now) (g.S.Store.files c.args.store.now) (g.S.Store.failures c.args.store.now) (g.S.Store.files c.open_flights.new.store) (g.S.Store.failures c.open_flights.new.store)
-    refusal c.from_residual.result is (refl, inl c.in_err-old.ensures.refused) c.open_flights.ensures.same c.open_flights.ensures.counted
+pub returns-in_err-desk-clause-answer : goal.returns-in_err-desk-clause-answer
+returns-in_err-desk-clause-answer g c =
+    let why = c.in_err-desk.field-0.0 in let read = c.in_ok-old.ensures.read in
+    let is : c.from_residual-in_err-desk.result ≡ Err why = search rules in
+    rw is (inr (read.0, read.1, inl (subst (λ (f : Option Files). RefusesTimetable f c.args.to.now why) c.open_flights.ensures.same c.in_err-desk.ensures.refused)))
 
-pub returns : goal.returns
-returns g c =
-    let desk = c.in_ok-desk.desk in
-    let read = c.in_ok-old.ensures.read in
-    let theirs = subst (λ (f : Option Files). ReadsTimetable f c.args.to.now desk) c.open_flights.ensures.same c.in_ok-desk.ensures.read in
-    prepared (Diff c.args.from.now c.args.to.now)
-    (g.S.Store.files c.args.store.now) (g.S.Store.failures c.args.store.now)
-    (g.S.Store.files c.open_timetable.new.store) (g.S.Store.failures c.open_timetable.new.store)
-    (PrintsDifferences read.0 desk) (RefusesComparison read.0 desk) c.compared.result
-    (λ text shows. (read.0, desk, read.1, theirs, shows, refl))
-    (λ refusal why. (refl, inr (inr (read.0, desk, read.1, theirs, why))))
-    (c.open_timetable.ensures.same ∙ c.open_flights.ensures.same)
-    (c.open_timetable.ensures.counted ∙ c.open_flights.ensures.counted)
-    (c.compared.ensures.ok read.0 read.2) (c.compared.ensures.err read.0 read.2)
+pub returns-clause-answer : goal.returns-clause-answer
+returns-clause-answer g c =
+    let desk = c.in_ok-desk.desk in let read = c.in_ok-old.ensures.read in
+    both (g.S.Store.files c.args.store.now) c.args.from.now c.args.to.now read.0 desk c.compared.result read.1
+    (subst (λ (f : Option Files). ReadsTimetable f c.args.to.now desk) c.open_flights.ensures.same c.in_ok-desk.ensures.read) (c.compared.ensures read.0 read.2)

@@ -4,7 +4,7 @@ use Rattle.ssim_values.specs.declared.designator.Designator.{Designator}
 use Rattle.ssim_held.specs.Entries.{DeskSeen}
 use Rattle.ssim_schedule.specs.FlightPieces.{Divided, divided_among}
 use Rattle.ssim_desk.specs.Desk.{days_of_desk}
-use Rattle.ssim_program.specs.Listing.{chosen}
+use Rattle.ssim_program.specs.Answers.{chosen}
 use Rattle.ssim_program.proofs.command.list.chosen.Goals as goal
 
 there_is_one : (desk : DeskSeen) (flights : List Designator) (first : Designator) (later : List Designator) → flights ≡ first ∷ later

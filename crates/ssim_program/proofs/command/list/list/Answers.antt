@@ -1,25 +1,33 @@
--- The flights are shown, or not.
-use Rattle.std.proofs.Common.{◌≡◌, Err, inl, inr, map, refl, rules}
+-- The words choose flights, or not.
+use Rattle.std.proofs.Common.{◌≡◌, ◌∙◌, ◌∷◌, [], Bor, Err, List, ℕ, Ok, Option, Result, Some, Vec, ap, ap₂, inl, inr, map, option_map, refl, rules, subst, sym, true≢false}
 use Rattle.ssim_base.specs.Base.{airline_of}
-use Rattle.ssim_command_line.specs.Line.{Listing}
-use Rattle.ssim_program.specs.Listing.{Lists}
-use Rattle.ssim_program.specs.Messages.{RefusesFlights}
-use Rattle.ssim_program.proofs.Doing.{prepared, refused_before}
+use Rattle.ssim_program.specs.Messages.{flights_in}
+use Rattle.ssim_schedule.specs.FlightPieces.{Divided}
+use Rattle.ssim_program.specs.Answers.{chosen}
+use Rattle.ssim_program.specs.print.Listing.{printed_list}
 use Rattle.ssim_program.proofs.command.list.list.Goals as goal
 
-pub returns-in_err-desk : goal.returns-in_err-desk
-returns-in_err-desk g c =
-    let refusal = c.in_err-desk.field-0.0 in
-    let is : c.from_residual.result ≡ Err refusal = search rules in
-    let words = map (λ t. t.now) c.args.flights.now in
-    refused_before (Listing c.args.form c.args.file.now words) (g.S.Store.files c.args.store.now) (g.S.Store.failures c.args.store.now) (g.S.Store.files c.open_timetable.new.store) (g.S.Store.failures c.open_timetable.new.store)
-    refusal c.from_residual.result is (refl, inl c.in_err-desk.ensures.refused) c.open_timetable.ensures.same c.open_timetable.ensures.counted
+pub returns-in_err-flights-clause-answer : goal.returns-in_err-flights-clause-answer
+returns-in_err-flights-clause-answer g c =
+    let why = c.in_err-flights.field-0.0 in
+    let here = c.airline-airline.ensures ∙ ap airline_of c.data_set.ensures in
+    let is : c.from_residual-in_err-flights.result ≡ Err why = search rules in
+    rw is (inr (
+      c.in_ok-desk.desk,
+      c.in_ok-desk.ensures.read,
+      inl (subst (λ (a : List ℕ). flights_in a (map (λ t. t.now) c.args.flights.now) (Err why)) here c.in_err-flights.ensures.err),
+    ))
 
-pub returns : goal.returns
-returns g c =
-    let desk = c.in_ok-desk.desk in
-    let form = c.args.form in
-    let words = map (λ t. t.now) c.args.flights.now in
-    prepared (Listing form c.args.file.now words) (g.S.Store.files c.args.store.now) (g.S.Store.failures c.args.store.now) (g.S.Store.files c.open_timetable.new.store) (g.S.Store.failures c.open_timetable.new.store)
-    (Lists desk form words) (RefusesFlights (airline_of desk.base.records) words) c.shown.result
-    (λ text lists. (desk, c.in_ok-desk.ensures.read, lists, refl)) (λ refusal why. (refl, inr (desk, c.in_ok-desk.ensures.read, why))) c.open_timetable.ensures.same c.open_timetable.ensures.counted c.shown.ensures.ok c.shown.ensures.err
+pub returns-clause-answer : goal.returns-clause-answer
+returns-clause-answer g c =
+    let desk = c.in_ok-desk.desk in let flights = c.in_ok-flights.flights.items in
+    let here = c.airline-airline.ensures ∙ ap airline_of c.data_set.ensures in
+    let divided = c.in_ok-divided.ensures ∙ ap (chosen desk) c.deref.ensures.value in (
+      desk,
+      c.in_ok-desk.ensures.read,
+      (
+        flights,
+        subst (λ (a : List ℕ). flights_in a (map (λ t. t.now) c.args.flights.now) (Ok flights)) here c.in_ok-flights.ensures.ok,
+        c.in_ok-lines.ensures ∙ ap₂ (λ (a : List ℕ) (fs : List Divided). printed_list c.args.form a fs) here (c.deref-2.ensures.value ∙ divided),
+      ),
+    )

@@ -1,20 +1,20 @@
--- The file is held, or the command is refused before it reads anything.
-use Rattle.std.proofs.Common.{◌≡◌, Err, ap, inl, refl, rules}
-use Rattle.ssim_command_line.specs.Line.{Text, Merge}
-use Rattle.ssim_program.specs.declared.content_kind.ContentKind.TheVariants as kind
-use Rattle.ssim_program.proofs.Holding.{may_over, prepares_over}
+-- The second desk is refused, or the merge.
+use Rattle.std.proofs.Common.{◌≡◌, ◌∙◌, ◌∷◌, [], Bor, Err, List, ℕ, Ok, Option, Result, Some, Vec, ap, ap₂, inl, inr, map, option_map, refl, rules, subst, sym, true≢false}
+use Rattle.ssim_program.specs.Desks.{ReadsDesk, RefusesDeskFile}
+use Rattle.ssim_program.specs.Files.{Files}
 use Rattle.ssim_program.proofs.command.merge.merge.Goals as goal
 
-pub returns-in_err-place : goal.returns-in_err-place
-returns-in_err-place g c =
-    let is : c.from_residual.result ≡ Err c.in_err-place.field-0.0 = search rules in
-    rw is (inl (inl (refl, c.in_err-place.ensures.refused), c.hold.ensures.counted, refl), c.hold.ensures.same)
+pub returns-in_err-other-clause-answer : goal.returns-in_err-other-clause-answer
+returns-in_err-other-clause-answer g c =
+    let why = c.in_err-other.field-0.0 in
+    let same = c.open_holdings.ensures.same ∙ c.hold.ensures.same in
+    let is : c.from_residual-in_err-other.result ≡ Err why = search rules in
+    let read = subst (λ (f : Option Files). ReadsDesk f c.args.mine.now c.in_ok-desk.desk) c.hold.ensures.same c.in_ok-desk.ensures.read in
+    rw is (inr (tt, c.in_ok-place.ensures.held, inr (c.in_ok-desk.desk, read, inl (subst (λ (f : Option Files). RefusesDeskFile f c.args.theirs.now why) same c.in_err-other.ensures.refused))))
 
-pub returns : goal.returns
-returns g c =
-    let old = g.S.Store.files c.args.store.now in
-    let mid = g.S.Store.files c.hold.new.store in
-    let file = g.S.Hold.Hold.file c.in_ok-place.place in
-    prepares_over (Merge c.args.mine.now c.args.theirs.now file) (Merge c.args.mine.now c.args.theirs.now c.args.name.now) old mid (g.S.Store.files c.merge_in.new.store) (g.S.Store.failures c.args.store.now) (g.S.Store.failures c.hold.new.store)
-    (g.S.Store.failures c.merge_in.new.store) c.merge_in.result (ap (λ (out : Text). Merge c.args.mine.now c.args.theirs.now out) c.in_ok-place.ensures.name) c.hold.ensures.same c.hold.ensures.counted
-    (c.merge_in.ensures (may_over old mid c.args.name.now file kind.DeskFile c.hold.ensures.same c.in_ok-place.ensures.name c.in_ok-place.ensures.held))
+pub returns-in-Err-clause-answer : goal.returns-in-Err-clause-answer
+returns-in-Err-clause-answer g c =
+    let same = c.open_holdings.ensures.same ∙ c.hold.ensures.same in
+    let read = subst (λ (f : Option Files). ReadsDesk f c.args.mine.now c.in_ok-desk.desk) c.hold.ensures.same c.in_ok-desk.ensures.read in
+    let theirs = subst (λ (f : Option Files). ReadsDesk f c.args.theirs.now c.in_ok-other.other) same c.in_ok-other.ensures.read in
+    inr (tt, c.in_ok-place.ensures.held, inr (c.in_ok-desk.desk, read, inr (c.in_ok-other.other, theirs, inl c.in-Err.ensures.why)))

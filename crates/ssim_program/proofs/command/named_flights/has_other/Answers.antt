@@ -3,34 +3,22 @@ use Rattle.std.proofs.Common.{◌≡◌, ◌∙◌, Bool, true, false, not, Some
 use Rattle.std.proofs.lemmas.List.{take_all}
 use Rattle.std.proofs.lemmas.List.Elements.{All-more, All-same}
 use Rattle.std.proofs.lemmas.Option.{slice_get-get_or}
-use Rattle.std.proofs.lemmas.Slice.Eq.{bytes_eq-Decides}
-use Rattle.std.specs.Str.{bytes_eq}
 use Rattle.ssim_values.specs.declared.designator.Designator.{Designator}
 use Rattle.ssim_program.specs.Messages.{IsOf}
+use Rattle.ssim_program.proofs.NamedFlights.{equal_bytes, other_bytes}
 use Rattle.ssim_program.proofs.command.named_flights.has_other.Goals as goal
-
-flipped : (b c : Bool) → c ≡ not b → c ≡ false → b ≡ true
-flipped true c e h = refl
-flipped false c e h = absurd (true≢false (sym e ∙ h))
-
-differ : (b c : Bool) → c ≡ not b → c ≡ true → b ≡ true → ⊥
-differ true c e h t = true≢false (sym h ∙ e)
-differ false c e h t = true≢false (sym t)
 
 pub loop-flight-preserved : goal.loop-flight-preserved
 loop-flight-preserved c =
     let airline = c.args.airline in let flight = c.flight-item.result in
-    let same : flight.airline ≡ airline = (bytes_eq-Decides flight.airline airline).0 (flipped (bytes_eq flight.airline airline) c.ne.result c.ne.ensures c.if-ne.false) in
+    let same : flight.airline ≡ airline = equal_bytes flight.airline airline c.ne.result c.ne.ensures c.if-ne.false in
     All-more (IsOf airline) c.args.flights.now c.loop-flight.flight-index flight c.loop-flight-test.true c.loop-flight.invariant (subst (IsOf airline) c.flight-item.is same)
 
 pub returns-then-ne-clause-other : goal.returns-then-ne-clause-other
-returns-then-ne-clause-other c = λ _.
-    let airline = c.args.airline in let flight = c.flight-item.result in (
-      c.loop-flight.flight-index,
-      flight,
-      slice_get-get_or c.args.flights.now c.loop-flight.flight-index flight c.loop-flight-test.true ∙ ap (λ (d : Designator). Some d) (sym c.flight-item.is),
-      λ same. differ (bytes_eq flight.airline airline) c.ne.result c.ne.ensures c.if-ne.true ((bytes_eq-Decides flight.airline airline).1 same),
-    )
+returns-then-ne-clause-other c = λ _ all.
+    let airline = c.args.airline in let flight = c.flight-item.result in
+    let same : IsOf airline flight = subst (IsOf airline) (sym c.flight-item.is) (all c.loop-flight.flight-index flight c.loop-flight-test.true) in
+    other_bytes flight.airline airline c.ne.result c.ne.ensures c.if-ne.true same
 
 pub returns-clause-none : goal.returns-clause-none
 returns-clause-none c = λ _.

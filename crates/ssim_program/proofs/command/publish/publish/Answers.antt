@@ -1,20 +1,38 @@
--- The file is held, or the command is refused before it reads anything.
-use Rattle.std.proofs.Common.{◌≡◌, Err, ap, inl, refl, rules}
-use Rattle.ssim_command_line.specs.Line.{Text, Publish}
-use Rattle.ssim_program.specs.declared.content_kind.ContentKind.TheVariants as kind
-use Rattle.ssim_program.proofs.Holding.{may_over, prepares_over}
+-- Both timetables are read, and the messages are made, or not.
+use Rattle.std.proofs.Common.{◌≡◌, ◌∙◌, ◌∷◌, [], Bor, Err, List, ℕ, Ok, Option, Result, Some, Vec, ap, ap₂, inl, inr, map, option_map, refl, rules, subst, sym, true≢false}
+use Rattle.ssim_command_line.specs.Line.{Text}
+use Rattle.ssim_program.specs.Acts.{Act, Keep, Print}
+use Rattle.ssim_program.specs.Files.{Files}
+use Rattle.ssim_program.specs.Timetables.{ReadsTimetable, RefusesTimetable}
+use Rattle.ssim_program.specs.print.Refusal.{refusal_of_outbox}
 use Rattle.ssim_program.proofs.command.publish.publish.Goals as goal
 
-pub returns-in_err-place : goal.returns-in_err-place
-returns-in_err-place g c =
-    let is : c.from_residual.result ≡ Err c.in_err-place.field-0.0 = search rules in
-    rw is (inl (inl (refl, c.in_err-place.ensures.refused), c.hold.ensures.counted, refl), c.hold.ensures.same)
+pub returns-in_err-old-clause-answer : goal.returns-in_err-old-clause-answer
+returns-in_err-old-clause-answer g c =
+    let why = c.in_err-old.field-0.0 in
+    let is : c.from_residual-in_err-old.result ≡ Err why = search rules in
+    rw is (inr (tt, c.in_ok-place.ensures.held, inl (subst (λ (f : Option Files). RefusesTimetable f c.args.from.now why) c.hold.ensures.same c.in_err-old.ensures.refused)))
 
-pub returns : goal.returns
-returns g c =
-    let old = g.S.Store.files c.args.store.now in
-    let mid = g.S.Store.files c.hold.new.store in
-    let file = g.S.Hold.Hold.file c.in_ok-place.place in
-    prepares_over (Publish c.args.from.now c.args.to.now c.args.reference.now file) (Publish c.args.from.now c.args.to.now c.args.reference.now c.args.name.now) old mid (g.S.Store.files c.publish_in.new.store) (g.S.Store.failures c.args.store.now) (g.S.Store.failures c.hold.new.store)
-    (g.S.Store.failures c.publish_in.new.store) c.publish_in.result (ap (λ (out : Text). Publish c.args.from.now c.args.to.now c.args.reference.now out) c.in_ok-place.ensures.name) c.hold.ensures.same c.hold.ensures.counted
-    (c.publish_in.ensures (may_over old mid c.args.name.now file kind.Messages c.hold.ensures.same c.in_ok-place.ensures.name c.in_ok-place.ensures.held))
+pub returns-in_err-new-clause-answer : goal.returns-in_err-new-clause-answer
+returns-in_err-new-clause-answer g c =
+    let why = c.in_err-new.field-0.0 in
+    let same = c.open_timetable.ensures.same ∙ c.hold.ensures.same in
+    let is : c.from_residual-in_err-new.result ≡ Err why = search rules in
+    let mine = subst (λ (f : Option Files). ReadsTimetable f c.args.from.now c.in_ok-old.old) c.hold.ensures.same c.in_ok-old.ensures.read in
+    rw is (inr (tt, c.in_ok-place.ensures.held, inr (c.in_ok-old.old, mine, inl (subst (λ (f : Option Files). RefusesTimetable f c.args.to.now why) same c.in_err-new.ensures.refused))))
+
+pub returns-in-Err-clause-answer : goal.returns-in-Err-clause-answer
+returns-in-Err-clause-answer g c =
+    let same = c.open_timetable.ensures.same ∙ c.hold.ensures.same in
+    let mine = subst (λ (f : Option Files). ReadsTimetable f c.args.from.now c.in_ok-old.old) c.hold.ensures.same c.in_ok-old.ensures.read in
+    let theirs = subst (λ (f : Option Files). ReadsTimetable f c.args.to.now c.in_ok-new.new) same c.in_ok-new.ensures.read in
+    inr (tt, c.in_ok-place.ensures.held, inr (c.in_ok-old.old, mine, inr (c.in_ok-new.new, theirs, inl (c.in-Err.fault, c.in-Err.ensures.err, c.from.ensures))))
+
+pub returns-clause-answer : goal.returns-clause-answer
+returns-clause-answer g c =
+    let same = c.open_timetable.ensures.same ∙ c.hold.ensures.same in
+    let mine = subst (λ (f : Option Files). ReadsTimetable f c.args.from.now c.in_ok-old.old) c.hold.ensures.same c.in_ok-old.ensures.read in
+    let theirs = subst (λ (f : Option Files). ReadsTimetable f c.args.to.now c.in_ok-new.new) same c.in_ok-new.ensures.read in
+    let lines = c.in-Ok.made.lines.items in let mail = c.in-Ok.made.mail.items in
+    let keep : (out : Text) → List Act = λ out. Keep out mail ∷ Print lines ∷ [] in
+    (tt, c.in_ok-place.ensures.held, (c.in_ok-old.old, mine, (c.in_ok-new.new, theirs, ((lines, mail), c.in-Ok.ensures.ok, ap keep c.in_ok-place.ensures.name))))

@@ -1,25 +1,25 @@
--- The files are held, or the command is refused before it reads anything.
-use Rattle.std.proofs.Common.{◌≡◌, ◌∙◌, ◌∷◌, Bor, Err, List, ℕ, Option, Some, inr, map, option_map, rules, subst, sym}
+-- The texts were received, and are to be printed and kept.
+use Rattle.std.proofs.Common.{◌≡◌, ◌∙◌, ◌∷◌, [], Bor, Err, List, ℕ, None, Ok, Option, Result, Some, Vec, ap, ap₂, inl, inr, map, option_map, refl, rules, subst, sym, true≢false}
+use Rattle.ssim_command_line.specs.Line.{Text}
+use Rattle.ssim_program.specs.Acts.{Act, Print}
 use Rattle.ssim_program.specs.Files.{Files}
-use Rattle.ssim_program.specs.Receiving.{RefusesPlaces, RefusesRefused}
-use Rattle.ssim_program.proofs.Receiving.{desk_not_held, not_held}
+use Rattle.ssim_program.specs.internal.Receive.{HasReceived}
+use Rattle.ssim_program.specs.declared.made.Contents.TheVariants as contents
+use Rattle.ssim_program.proofs.Receiving.{keeps_received}
 use Rattle.ssim_program.proofs.command.receive.receive.Goals as goal
 
-pub returns-in_err-desk : goal.returns-in_err-desk
-returns-in_err-desk g c =
-    let old = g.S.Store.files c.args.store.now in let refusal = c.in_err-desk.field-0.0 in
-    let refused = option_map (λ t. t.now) c.args.refused in let names = map (λ t. t.now) c.args.names.now in
-    let is : c.from_residual.result ≡ Err refusal = search rules in
-    rw is (not_held old (g.S.Store.failures c.args.store.now) refused c.args.file.now c.args.kept.now names (g.S.Store.files c.hold.new.store) (g.S.Store.failures c.hold.new.store) c.args.out.now refusal
-    (desk_not_held old refused c.args.file.now c.args.kept.now names refusal c.in_err-desk.ensures.refused) c.hold.ensures.same c.hold.ensures.counted)
-
-pub returns-in_err-hold_refused-in-Some : goal.returns-in_err-hold_refused-in-Some
-returns-in_err-hold_refused-in-Some g c =
-    let old = g.S.Store.files c.args.store.now in let refusal = c.in_err-hold_refused-in-Some.field-0.0 in
-    let file = c.args.file.now in let kept = c.args.kept.now in let names = map (λ t. t.now) c.args.names.now in
-    let name = c.in-Some.name.now in
-    let is : c.from_residual-in_err-hold_refused-in-Some.result ≡ Err refusal = search rules in
-    let why = subst (λ (f : Option Files). RefusesRefused f name (kept ∷ file ∷ names) refusal) c.hold.ensures.same c.in_err-hold_refused-in-Some.ensures.refused in
-    rw is (not_held old (g.S.Store.failures c.args.store.now) (option_map (λ t. t.now) c.args.refused) file kept names (g.S.Store.files c.hold_refused.new.store) (g.S.Store.failures c.hold_refused.new.store) c.args.out.now refusal
-    (subst (λ (r : Option (Bor (List ℕ))). RefusesPlaces old (option_map (λ t. t.now) r) file kept names refusal) (sym c.in-Some.is) (inr (c.in_ok-desk.ensures.held, why)))
-    (c.hold_refused.ensures.same ∙ c.hold.ensures.same) (c.hold_refused.ensures.counted ∙ c.hold.ensures.counted))
+pub returns-clause-answer : goal.returns-clause-answer
+returns-clause-answer g c =
+    let names = map (λ t. t.now) c.args.names.now in let refused = option_map (λ t. t.now) c.args.refused in
+    let r = c.in_ok-received.received in let places = c.in_ok-places.places in
+    let h = subst (λ (f : Option Files). HasReceived f c.args.file.now names r.desk r.lines.items r.refused.items) c.hold_places.ensures.same c.in_ok-received.ensures.ok in (
+      tt,
+      c.in_ok-places.ensures.held,
+      (
+        (h.receipts, r.desk),
+        (h.before, h.reads, (h.received, h.rising)),
+        ap₂ (λ (lines : List ℕ) (acts : List Act). Print lines ∷ acts) h.lines_are
+            (keeps_received g.S.Hold.Hold.file places.refused c.kept_texts-refused.result places.desk refused c.args.out.now (contents.Bytes r.refused) (contents.DeskFile r.desk) h.receipts r.desk
+            c.kept_texts-refused.ensures c.in_ok-places.ensures.names.1 c.in_ok-places.ensures.names.0 h.texts_are refl),
+      ),
+    )

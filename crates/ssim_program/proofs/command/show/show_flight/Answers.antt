@@ -1,13 +1,22 @@
--- The flight is shown, or not.
-use Rattle.std.proofs.Common.{inr, refl}
-use Rattle.ssim_program.specs.Desks.{RefusesFlight, Shows}
-use Rattle.ssim_command_line.specs.Line.{Show}
-use Rattle.ssim_program.proofs.Doing.{prepared}
+-- The words name a flight and a date, or not.
+use Rattle.std.proofs.Common.{◌≡◌, ◌∙◌, ◌∷◌, [], Bor, Err, List, ℕ, Ok, Option, Result, Some, Vec, ap, ap₂, inl, inr, map, option_map, refl, rules, subst, sym, true≢false}
+use Rattle.ssim_base.specs.Timetable.{Legs}
+use Rattle.ssim_program.specs.print.Shown.{shown_flight}
 use Rattle.ssim_program.proofs.command.show.show_flight.Goals as goal
 
-pub returns : goal.returns
-returns g c =
-    let desk = c.in_ok-desk.desk in
-    prepared (Show c.args.file.now c.args.flight.now c.args.date.now) (g.S.Store.files c.args.store.now) (g.S.Store.failures c.args.store.now) (g.S.Store.files c.open_holdings.new.store) (g.S.Store.failures c.open_holdings.new.store)
-    (Shows desk c.args.flight.now c.args.date.now) (RefusesFlight desk c.args.flight.now c.args.date.now) c.shown.result
-    (λ text shows. (desk, c.in_ok-desk.ensures.read, shows, refl)) (λ refusal why. (refl, inr (desk, c.in_ok-desk.ensures.read, why))) c.open_holdings.ensures.same c.open_holdings.ensures.counted c.shown.ensures.ok c.shown.ensures.err
+pub returns-in_err-designator-clause-answer : goal.returns-in_err-designator-clause-answer
+returns-in_err-designator-clause-answer g c =
+    let is : c.from_residual-in_err-designator.result ≡ Err c.in_err-designator.field-0.0 = search rules in
+    rw is (inr (c.in_ok-desk.desk, c.in_ok-desk.ensures.read, inl c.in_err-designator.ensures))
+
+pub returns-clause-answer : goal.returns-clause-answer
+returns-clause-answer g c =
+    let designator = c.in_ok-designator.designator in let day = c.in_ok-designator.day in (
+      c.in_ok-desk.desk,
+      c.in_ok-desk.ensures.read,
+      (
+        (designator, day),
+        c.in_ok-designator.ensures,
+        c.in_ok-lines.ensures ∙ ap (λ (ls : Legs). shown_flight designator day ls) (c.deref.ensures.value ∙ c.in_ok-legs.ensures.value),
+      ),
+    )

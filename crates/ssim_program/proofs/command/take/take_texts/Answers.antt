@@ -1,32 +1,92 @@
--- One more text is taken and its line printed, or it is refused, or `out` fails.
-use Rattle.std.proofs.Common.{◌≡◌, ◌∙◌, map, ap, rules, Err}
-use Rattle.std.specs.Option.{option_map}
-use Rattle.std.proofs.lemmas.Option.{slice_get-get_or, slice_get-map}
-use Rattle.ssim_program.proofs.Texts.{breaks_there, prints_more, refused_there}
+-- One more text is taken and its line printed, or not; or no text is left, and the desk is kept.
+use Rattle.std.proofs.Common.{◌≡◌, ◌∙◌, ◌∷◌, [], Bor, Err, List, ℕ, Ok, Option, Result, Some, Vec, ap, ap₂, inl, inr, map, option_map, refl, rules, subst, sym, true≢false}
+use Rattle.std.proofs.Common.{◌+◌, drop, get_or}
+use Rattle.ssim_held.specs.Entries.{AreRising, DeskSeen}
+use Rattle.ssim_command_line.specs.Line.{Text}
+use Rattle.ssim_program.specs.Answers.{take_each}
+use Rattle.ssim_program.specs.Desks.{RefusesFileText, TakesText}
+use Rattle.ssim_program.specs.Files.{Files}
+use Rattle.ssim_program.specs.World.{Does, World, world}
+use Rattle.ssim_program.specs.declared.refusal.Refusal.{Refusal}
+use Rattle.ssim_program.specs.declared.refusal.Refusal.TheVariants as refused
+use Rattle.ssim_program.proofs.Acting.{acted_print, refuses, same_world}
+use Rattle.ssim_program.proofs.NamedFlights.{next_word, no_word}
+use Rattle.ssim_program.proofs.Taking.{kept, not_printed, not_taken, one_text}
 use Rattle.ssim_program.proofs.command.take.take_texts.Goals as goal
+
+-- a list of words that is that one
+over : (files : Option Files) (out : Text) (words others : List Text) (desk : DeskSeen) (w v : World) (r : Result (Unit {0}) Refusal) → words ≡ others → Does (take_each files out others desk) w v r
+    → Does (take_each files out words desk) w v r
+over files out words others desk w v r is does = subst (λ (ws : List Text). Does (take_each files out ws desk) w v r) (sym is) does
 
 pub loop-name-preserved : goal.loop-name-preserved
 loop-name-preserved g c =
-    let i = c.loop-name.name-index in
-    let names = c.args.names.now in
+    let i = c.loop-name.name-index in let names = c.args.names.now in
+    let files = g.S.Store.files c.args.store.now in let out = g.S.Hold.Hold.file c.args.place.now in
+    let desk = c.loop-name.desk in let mid = c.take_text.new.desk in
+    let w = world (g.S.Store.files c.loop-name.store) (g.S.Store.failures c.loop-name.store) c.loop-name.out in
+    let v = world (g.S.Store.files c.take_text.new.store) (g.S.Store.failures c.take_text.new.store) c.print_all.new.out in
+    let one = (get_or names i (record { ref_ptr = (0, 0); now = [] })).now in let rest_names = drop (i + 1) (map (λ t. t.now) names) in
+    let next = next_word (λ t. t.now) names i (record { ref_ptr = (0, 0); now = [] }) c.loop-name-test.true in
     record {
-      printed = prints_more (g.S.Store.files c.args.store.now) (map (λ t. t.now) names) i _ (slice_get-map (λ t. t.now) names i ∙ ap (option_map (λ t. t.now)) (slice_get-get_or names i _ c.loop-name-test.true)) c.args.desk.now c.loop-name.desk c.args.out.now c.loop-name.out
-          c.loop-name.invariant.printed (g.S.Store.files c.loop-name.store) c.loop-name.invariant.files c.take_text.new.desk c.deref.result.now _ c.print_all.new.out c.deref.ensures.value c.in-Ok.ensures.text c.in_ok-print_all.ensures.0;
       files = c.take_text.ensures.same ∙ c.loop-name.invariant.files;
-      counted = c.take_text.ensures.counted ∙ c.loop-name.invariant.counted;
+      through = λ after r rest. c.loop-name.invariant.through after r
+          (over files out _ _ desk w after r next
+          (one_text files out one rest_names desk mid c.deref.result.now w v after r
+          (subst (λ (bs : List ℕ). TakesText files one desk mid bs) (sym c.deref.ensures.value) (subst (λ (f : Option Files). TakesText f one desk mid c.in-Ok.line.items) c.loop-name.invariant.files c.in-Ok.ensures.text))
+          (acted_print _ _ _ _ c.loop-name.out c.print_all.new.out c.deref.result.now (Ok tt) c.take_text.ensures.same c.take_text.ensures.counted c.in_ok-print_all.ensures) rest));
     }
 
-pub returns-in-Err-clause-texts : goal.returns-in-Err-clause-texts
-returns-in-Err-clause-texts g c =
-    let i = c.loop-name.name-index in
-    let names = c.args.names.now in
-    refused_there (g.S.Store.files c.args.store.now) (map (λ t. t.now) names) i _ (slice_get-map (λ t. t.now) names i ∙ ap (option_map (λ t. t.now)) (slice_get-get_or names i _ c.loop-name-test.true)) c.args.desk.now c.loop-name.desk c.args.out.now c.loop-name.out
-    c.loop-name.invariant.printed (g.S.Store.files c.loop-name.store) c.loop-name.invariant.files c.take_text.new.desk c.in-Err.refusal c.in-Err.ensures.text
+pub returns-in-Err : goal.returns-in-Err
+returns-in-Err g c =
+    let i = c.loop-name.name-index in let names = c.args.names.now in
+    let files = g.S.Store.files c.args.store.now in let out = g.S.Hold.Hold.file c.args.place.now in
+    let desk = c.loop-name.desk in let why = c.in-Err.refusal in
+    let w = world (g.S.Store.files c.loop-name.store) (g.S.Store.failures c.loop-name.store) c.loop-name.out in
+    let v = world (g.S.Store.files c.take_text.new.store) (g.S.Store.failures c.take_text.new.store) c.loop-name.out in
+    let one = (get_or names i (record { ref_ptr = (0, 0); now = [] })).now in let rest_names = drop (i + 1) (map (λ t. t.now) names) in
+    let next = next_word (λ t. t.now) names i (record { ref_ptr = (0, 0); now = [] }) c.loop-name-test.true in
+    c.loop-name.invariant.through v (Err why)
+    (over files out _ _ desk w v (Err why) next
+    (not_taken files out one rest_names desk w v why (subst (λ (f : Option Files). RefusesFileText f one desk why) c.loop-name.invariant.files c.in-Err.ensures.text)
+    (same_world _ _ _ _ c.loop-name.out c.take_text.ensures.same c.take_text.ensures.counted)))
 
-pub returns-in_err-print_all-clause-texts : goal.returns-in_err-print_all-clause-texts
-returns-in_err-print_all-clause-texts g c =
-    let i = c.loop-name.name-index in
-    let names = c.args.names.now in
-    let is : c.from_residual.result ≡ Err c.in_err-print_all.field-0.0 = search rules in
-    rw is (breaks_there (g.S.Store.files c.args.store.now) (map (λ t. t.now) names) i _ (slice_get-map (λ t. t.now) names i ∙ ap (option_map (λ t. t.now)) (slice_get-get_or names i _ c.loop-name-test.true)) c.args.desk.now c.loop-name.desk c.args.out.now c.loop-name.out
-    c.loop-name.invariant.printed (g.S.Store.files c.loop-name.store) c.loop-name.invariant.files c.take_text.new.desk c.take_text.new.desk c.deref.result.now _ c.print_all.new.out c.in_err-print_all.field-0.0 c.deref.ensures.value c.in-Ok.ensures.text c.in_err-print_all.ensures.0 c.in_err-print_all.ensures.1)
+pub returns-in_err-print_all : goal.returns-in_err-print_all
+returns-in_err-print_all g c =
+    let i = c.loop-name.name-index in let names = c.args.names.now in
+    let files = g.S.Store.files c.args.store.now in let out = g.S.Hold.Hold.file c.args.place.now in
+    let desk = c.loop-name.desk in let mid = c.take_text.new.desk in let why = c.in_err-print_all.field-0.0 in
+    let w = world (g.S.Store.files c.loop-name.store) (g.S.Store.failures c.loop-name.store) c.loop-name.out in
+    let v = world (g.S.Store.files c.take_text.new.store) (g.S.Store.failures c.take_text.new.store) c.print_all.new.out in
+    let one = (get_or names i (record { ref_ptr = (0, 0); now = [] })).now in let rest_names = drop (i + 1) (map (λ t. t.now) names) in
+    let next = next_word (λ t. t.now) names i (record { ref_ptr = (0, 0); now = [] }) c.loop-name-test.true in
+    let is : c.from_residual.result ≡ Err why = search rules in
+    rw is (c.loop-name.invariant.through v (Err why)
+    (over files out _ _ desk w v (Err why) next
+    (not_printed files out one rest_names desk mid c.deref.result.now w v why
+    (subst (λ (bs : List ℕ). TakesText files one desk mid bs) (sym c.deref.ensures.value) (subst (λ (f : Option Files). TakesText f one desk mid c.in-Ok.line.items) c.loop-name.invariant.files c.in-Ok.ensures.text))
+    (acted_print _ _ _ _ c.loop-name.out c.print_all.new.out c.deref.result.now (Err why) c.take_text.ensures.same c.take_text.ensures.counted c.in_err-print_all.ensures))))
+
+pub returns-in_err-desk : goal.returns-in_err-desk
+returns-in_err-desk g c =
+    let i = c.loop-name.name-index in let names = c.args.names.now in
+    let files = g.S.Store.files c.args.store.now in let out = g.S.Hold.Hold.file c.args.place.now in
+    let desk = c.loop-name.desk in
+    let w = world (g.S.Store.files c.loop-name.store) (g.S.Store.failures c.loop-name.store) c.loop-name.out in
+    let none = no_word (λ t. t.now) names i c.loop-name-test.false in
+    let is : c.from_residual-in_err-desk.result ≡ Err refused.Memory = search rules in
+    rw is (c.loop-name.invariant.through w (Err refused.Memory)
+    (over files out _ _ desk w w (Err refused.Memory) none (refuses (take_each files out [] desk) w w refused.Memory refl refl)))
+
+pub returns : goal.returns
+returns g c =
+    let i = c.loop-name.name-index in let names = c.args.names.now in
+    let files = g.S.Store.files c.args.store.now in let out = g.S.Hold.Hold.file c.args.place.now in
+    let last = c.in_ok-desk.desk in
+    let w = world (g.S.Store.files c.loop-name.store) (g.S.Store.failures c.loop-name.store) c.loop-name.out in
+    let v = world (g.S.Store.files c.keep_content.new.store) (g.S.Store.failures c.keep_content.new.store) c.loop-name.out in
+    let none = no_word (λ t. t.now) names i c.loop-name-test.false in
+    c.loop-name.invariant.through v c.keep_content.result
+    (over files out _ _ c.loop-name.desk w v c.keep_content.result none
+    (subst (λ (d : DeskSeen). Does (take_each files out [] d) w v c.keep_content.result) c.in_ok-desk.ensures
+    (kept files out last w v c.keep_content.result (subst AreRising c.held.ensures.value c.held.ensures.rising) (c.keep_content.ensures c.loop-name.out))))

@@ -1,11 +1,14 @@
--- The texts so far were taken, and their lines printed.
-use Rattle.std.proofs.Common.{◌≡◌, map, take}
-use Rattle.ssim_program.proofs.Texts.{HavePrinted}
+-- What the texts that are left do makes the whole of what is done.
+use Rattle.std.proofs.Common.{◌≡◌, Result, drop, map}
+use Rattle.ssim_program.specs.Answers.{take_each}
+use Rattle.ssim_program.specs.World.{Does, World, world}
+use Rattle.ssim_program.specs.declared.refusal.Refusal.{Refusal}
 use Rattle.ssim_program.proofs.command.take.take_texts.Given as goal
 
 abbrev pub invariant-loop-name : goal.invariant-loop-name
 invariant-loop-name g l = record {
-  printed : HavePrinted (g.S.Store.files l.fn.store) (take l.name-index (map (λ t. t.now) l.names)) l.fn.desk l.desk l.fn.out l.out;
   files : g.S.Store.files l.store ≡ g.S.Store.files l.fn.store;
-  counted : g.S.Store.failures l.store ≡ g.S.Store.failures l.fn.store;
+  through : (after : World) (r : Result (Unit {0}) Refusal)
+      → Does (take_each (g.S.Store.files l.fn.store) (g.S.Hold.Hold.file l.fn.place) (drop l.name-index (map (λ t. t.now) l.names)) l.desk) (world (g.S.Store.files l.store) (g.S.Store.failures l.store) l.out) after r
+      → Does (take_each (g.S.Store.files l.fn.store) (g.S.Hold.Hold.file l.fn.place) (map (λ t. t.now) l.names) l.fn.desk) (world (g.S.Store.files l.fn.store) (g.S.Store.failures l.fn.store) l.fn.out) after r;
 }

@@ -1,20 +1,38 @@
--- The file is held, or the command is refused before it reads anything.
-use Rattle.std.proofs.Common.{◌≡◌, Err, ap, inl, refl, rules, map}
-use Rattle.ssim_command_line.specs.Line.{Text, Withdraw}
-use Rattle.ssim_program.specs.declared.content_kind.ContentKind.TheVariants as kind
-use Rattle.ssim_program.proofs.Holding.{may_over, prepares_over}
+-- The messages are withdrawn, or a word is no reference.
+use Rattle.std.proofs.Common.{◌≡◌, ◌∙◌, ◌∷◌, [], Bor, Err, List, ℕ, Ok, Option, Result, Some, Vec, ap, ap₂, inl, inr, map, option_map, refl, rules, subst, sym, true≢false}
+use Rattle.ssim_held.specs.Entries.{AreRising, DeskSeen}
+use Rattle.ssim_held.specs.File.{desk_file}
+use Rattle.ssim_command_line.specs.Line.{Text}
+use Rattle.ssim_program.specs.Acts.{Act, Keep, Print}
+use Rattle.ssim_program.specs.Desks.{ReadsDesk}
+use Rattle.ssim_program.specs.Files.{Files}
+use Rattle.ssim_program.specs.Withdrawing.{WithdrawsFrom}
 use Rattle.ssim_program.proofs.command.withdraw.withdraw.Goals as goal
 
-pub returns-in_err-place : goal.returns-in_err-place
-returns-in_err-place g c =
-    let is : c.from_residual.result ≡ Err c.in_err-place.field-0.0 = search rules in
-    rw is (inl (inl (refl, c.in_err-place.ensures.refused), c.hold.ensures.counted, refl), c.hold.ensures.same)
+pub returns-in_err-lines-clause-answer : goal.returns-in_err-lines-clause-answer
+returns-in_err-lines-clause-answer g c =
+    let is : c.from_residual-in_err-lines.result ≡ Err c.in_err-lines.field-0.0 = search rules in
+    let read = subst (λ (f : Option Files). ReadsDesk f c.args.file.now c.in_ok-desk.desk) c.hold.ensures.same c.in_ok-desk.ensures.read in
+    rw is (inr (tt, c.in_ok-place.ensures.held, inr (c.in_ok-desk.desk, read, inl c.in_err-lines.ensures.why)))
 
-pub returns : goal.returns
-returns g c =
-    let old = g.S.Store.files c.args.store.now in
-    let mid = g.S.Store.files c.hold.new.store in
-    let file = g.S.Hold.Hold.file c.in_ok-place.place in
-    prepares_over (Withdraw c.args.file.now file (map (λ t. t.now) c.args.words.now)) (Withdraw c.args.file.now c.args.name.now (map (λ t. t.now) c.args.words.now)) old mid (g.S.Store.files c.withdraw_in.new.store) (g.S.Store.failures c.args.store.now) (g.S.Store.failures c.hold.new.store)
-    (g.S.Store.failures c.withdraw_in.new.store) c.withdraw_in.result (ap (λ (out : Text). Withdraw c.args.file.now out (map (λ t. t.now) c.args.words.now)) c.in_ok-place.ensures.name) c.hold.ensures.same c.hold.ensures.counted
-    (c.withdraw_in.ensures (may_over old mid c.args.name.now file kind.DeskFile c.hold.ensures.same c.in_ok-place.ensures.name c.in_ok-place.ensures.held))
+pub returns-clause-answer : goal.returns-clause-answer
+returns-clause-answer g c =
+    let desk = c.in_ok-desk-2.desk in let lines = c.in_ok-lines.lines.items in
+    let read = subst (λ (f : Option Files). ReadsDesk f c.args.file.now c.in_ok-desk.desk) c.hold.ensures.same c.in_ok-desk.ensures.read in
+    let done = subst (λ (d : DeskSeen). WithdrawsFrom (map (λ t. t.now) c.args.words.now) c.in_ok-desk.desk d lines) (sym c.in_ok-desk-2.ensures) c.in_ok-lines.ensures.done in
+    let rising = subst AreRising c.held.ensures.value c.held.ensures.rising in (
+      tt,
+      c.in_ok-place.ensures.held,
+      (
+        c.in_ok-desk.desk,
+        read,
+        (
+          (desk, lines),
+          done,
+          (
+            rising,
+            ap (λ (out : Text). Keep out (desk_file desk.base desk.held) ∷ Print lines ∷ []) c.in_ok-place.ensures.name,
+          ),
+        ),
+      ),
+    )

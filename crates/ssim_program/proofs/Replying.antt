@@ -1,0 +1,76 @@
+-- What the program replies to words that are no command.
+use Rattle.std.proofs.Common.{◌≡◌, ◌≤◌, ◌∙◌, ◌⊎◌, inl, inr, ℕ, Bool, true, false, refl, List, [], ◌∷◌, Result, Ok, Err, ap, arith}
+use Rattle.clap.specs.Kinds.{IsAmong}
+use Rattle.clap.specs.Values.{kind_of}
+use Rattle.clap.specs.Words.{fault_of}
+use Rattle.clap.specs.declared.error.kind.ErrorKind.{ErrorKind}
+use Rattle.ssim_base.specs.Export.{line}
+use Rattle.ssim_command_line.specs.Usage.{whole_program}
+use Rattle.ssim_command_line.specs.Usage.{IsFaultOf, is_help}
+use Rattle.ssim_command_line.specs.declared.command_line.LineFault.{LineFault}
+use Rattle.ssim_command_line.specs.declared.command_line.LineFault.TheVariants as fault
+use Rattle.ssim_program.specs.Acts.{Act, Print, Keep, Stop}
+use Rattle.ssim_program.specs.print.Refusal.{refusal_text}
+use Rattle.ssim_program.specs.declared.refusal.Refusal.{Refusal}
+use Rattle.ssim_program.specs.declared.refusal.Refusal.TheVariants as refused
+use Rattle.ssim_command_line.specs.Line.{Line, Text}
+use Rattle.ssim_program.specs.Runs.{Obeys, Replies, SaysWrong}
+use Rattle.ssim_program.specs.internal.Program.{EndsWithoutRequest, SaysHelp}
+use Rattle.ssim_program.specs.World.{Acted, Performs, World}
+use Rattle.ssim_program.specs.print.Paper.{Paper, PrintsOrFails}
+
+abbrev line_bytes : Refusal → List ℕ
+line_bytes refusal = line (refusal_text refusal)
+
+pub status_obeyed : (line : Line) (before after : World) (err err' : Paper) (status : ℕ) → Obeys line before after err err' status → status ≤ 2
+status_obeyed line before after err err' status (inl done) = omega (arith, done.0)
+status_obeyed line before after err err' status (inr refused) = omega (arith, refused.0)
+
+pub status_replied : (words : List Text) (out out' err err' : Paper) (status : ℕ) → Replies words out out' err err' status → status ≤ 2
+status_replied words out out' err err' status (inl (help, inl asked)) = omega (arith, asked.0)
+status_replied words out out' err err' status (inl (help, inr refused)) = omega (arith, refused.0)
+status_replied words out out' err err' status (inr (inl wrong)) = omega (arith, wrong.1)
+status_replied words out out' err err' status (inr (inr memory)) = omega (arith, memory.0)
+
+-- ---- devices
+
+acted_device : (act : Act) (w v : World) (r : Result (Unit {0}) Refusal) → Acted act w v r → v.out.device ≡ w.out.device
+acted_device (Print bytes) w v (Ok x) acted = acted.0.device
+acted_device (Print bytes) w v (Err why) acted = acted.1.device
+acted_device (Keep name bytes) w v (Ok x) acted = ap (λ (p : Paper). p.device) acted.2
+acted_device (Keep name bytes) w v (Err why) acted = ap (λ (p : Paper). p.device) acted.2
+acted_device (Stop refusal) w v (Ok x) acted = absurd acted
+acted_device (Stop refusal) w v (Err why) acted = ap (λ (x : World). x.out.device) acted.1
+
+performed_device : (acts : List Act) (w v : World) (r : Result (Unit {0}) Refusal) → Performs acts w v r → v.out.device ≡ w.out.device
+performed_device [] w v (Ok x) is = ap (λ (y : World). y.out.device) is
+performed_device [] w v (Err why) is = absurd is
+performed_device (act ∷ later) w v r (inl (mid, acted, rest)) = performed_device later mid v r rest ∙ acted_device act w mid (Ok tt) acted
+performed_device (act ∷ later) w v r (inr (why, acted, is)) = acted_device act w v (Err why) acted
+
+printed_device : (bytes : List ℕ) (p q : Paper) → PrintsOrFails bytes p q → q.device ≡ p.device
+printed_device bytes p q (inl grows) = grows.device
+printed_device bytes p q (inr breaks) = breaks.device
+
+pub devices_obeyed : (line : Line) (before after : World) (err err' : Paper) (status : ℕ) → Obeys line before after err err' status → (after.out.device ≡ before.out.device) × (err'.device ≡ err.device)
+devices_obeyed line before after err err' status (inl done) = (performed_device done.1.0 before after (Ok tt) done.1.2, ap (λ (p : Paper). p.device) done.3)
+devices_obeyed line before after err err' status (inr (one, refusal, does, printed)) = (performed_device does.0 before after (Err refusal) does.2, printed_device (line_bytes refusal) err err' printed)
+
+pub devices_replied : (words : List Text) (out out' err err' : Paper) (status : ℕ) → Replies words out out' err err' status → (out'.device ≡ out.device) × (err'.device ≡ err.device)
+devices_replied words out out' err err' status (inl (help, inl (zero, ((text, grows), flushed, same)))) = (grows.device, ap (λ (p : Paper). p.device) same)
+devices_replied words out out' err err' status (inl (help, inr (one, (refusal, inl (memory, grows), printed)))) = (grows.device, printed_device (line_bytes refusal) err err' printed)
+devices_replied words out out' err err' status (inl (help, inr (one, (refusal, inr (failed, text, breaks), printed)))) = (breaks.device, printed_device (line_bytes refusal) err err' printed)
+devices_replied words out out' err err' status (inr (inl (wrong, two, (grows, text, printed)))) = (grows.device, printed_device text err err' printed)
+devices_replied words out out' err err' status (inr (inr (one, same, printed))) = (ap (λ (p : Paper). p.device) same, printed_device (line_bytes refused.Memory) err err' printed)
+
+-- ---- words that make no request
+
+shown : (words : List Text) (k : ErrorKind) (out out' err err' : Paper) (status : ℕ) (b : Bool) → is_help k ≡ b → IsAmong k (fault_of whole_program words)
+    → ((is_help k ≡ true) × SaysHelp out out' err err' status) ⊎ ((is_help k ≡ false) × (status ≡ 2) × SaysWrong out out' err err') → Replies words out out' err err' status
+shown words k out out' err err' status b is among (inl (help, says)) = inl ((k, among, help), says)
+shown words k out out' err err' status b is among (inr (wrong, two, says)) = inr (inl (inl (k, among, wrong), two, says))
+
+pub replied : (words : List Text) (f : LineFault) (out out' err err' : Paper) (status : ℕ) → IsFaultOf words f → EndsWithoutRequest f out out' err err' status → Replies words out out' err err' status
+replied words fault.Memory out out' err err' status is ends = inr (inr ends)
+replied words (fault.Shown error) out out' err err' status is ends = shown words (kind_of error) out out' err err' status (is_help (kind_of error)) refl is ends
+replied words fault.NoCommand out out' err err' status is ends = inr (inl (inr is, ends.0, ends.1))

@@ -1,0 +1,10 @@
+-- The export is written, and then flushed.
+use Rattle.std.proofs.Common.{◌∙◌, ap}
+use Rattle.ssim_base.specs.Base.{airline_of}
+use Rattle.ssim_desk.specs.Desk.{days_of_desk}
+use Rattle.ssim_program.proofs.export.export_desk.Goals as goal
+
+pub returns-clause-printed : goal.returns-clause-printed
+returns-clause-printed g c =
+    let desk = c.args.desk in let e = c.export-written.ensures in
+    c.end_export.ensures.printed desk.base.records (days_of_desk desk) c.args.out.now (c.airline-airline.ensures ∙ ap airline_of c.data_set.ensures) (record { ok = e.ok; err = e.err; reads_back = e.reads_back })

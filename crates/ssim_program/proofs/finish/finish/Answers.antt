@@ -1,0 +1,85 @@
+-- Each act of what was made is done, or fails.
+use Rattle.std.proofs.Common.{◌≡◌, ◌∙◌, ◌∷◌, [], Bor, Err, List, ℕ, None, Ok, Option, Result, Some, Vec, ap, ap₂, inl, inr, map, option_map, refl, rules, subst, sym, true≢false}
+use Rattle.ssim_base.specs.Timetable.{days_of}
+use Rattle.ssim_program.specs.Acts.{Act, Acts, Keep, Print}
+use Rattle.ssim_program.specs.Files.{Files}
+use Rattle.ssim_program.specs.World.{Does, Performs, World, world}
+use Rattle.ssim_program.specs.internal.Print.{Prints}
+use Rattle.ssim_program.specs.internal.Program.{bytes_of, keeps, will}
+use Rattle.ssim_program.specs.print.Paper.{Paper}
+use Rattle.ssim_program.specs.declared.made.Made.{Made}
+use Rattle.ssim_program.specs.declared.made.Made.TheVariants as made
+use Rattle.ssim_program.specs.declared.refusal.Refusal.{Refusal}
+use Rattle.ssim_program.proofs.Acting.{acted_print, last}
+use Rattle.ssim_program.proofs.finish.finish.Goals as goal
+
+-- what was made is that
+over : {H : Type 0} (file : H → List ℕ) (files : Option Files) (m other : Made H) (w v : World) (r : Result (Unit {0}) Refusal) → m ≡ other → Does (will file files other) w v r → Does (will file files m) w v r
+over {H = H} file files m other w v r is does = subst (λ (x : Made H). Does (will file files x) w v r) (sym is) does
+
+-- bytes are printed last
+printed : (files old : Option Files) (n m : ℕ) (p q : Paper) (bytes others : List ℕ) (r : Result (Unit {0}) Refusal) → files ≡ old → n ≡ m → others ≡ bytes → Prints others p q r
+    → Performs (Print bytes ∷ []) (world old m p) (world files n q) r
+printed files old n m p q bytes others r same counted is h =
+    last (Print bytes) (world old m p) (world files n q) r (acted_print files old n m p q bytes r same counted (subst (λ (bs : List ℕ). Prints bs p q r) is h))
+
+pub returns-in-Lines-clause-does : goal.returns-in-Lines-clause-does
+returns-in-Lines-clause-does g c =
+    let lines = c.in-Lines.lines.items in
+    over _ _ _ _ _ _ _ c.in-Lines.is (Print lines ∷ [], inl refl, printed _ _ _ _ c.args.out.now c.print_all.new.out lines c.deref.result.now c.print_all.result refl refl c.deref.ensures.value c.print_all.ensures)
+
+pub returns-in_err-keep_content-in-Kept-clause-does : goal.returns-in_err-keep_content-in-Kept-clause-does
+returns-in_err-keep_content-in-Kept-clause-does g c =
+    let why = c.in_err-keep_content-in-Kept.field-0.0 in let kept = c.in-Kept.kept in let lines = c.in-Kept.lines.items in
+    let is : c.from_residual.result ≡ Err why = search rules in
+    rw is (over _ _ _ _ _ _ _ c.in-Kept.is (Keep (g.S.Hold.Hold.file kept.place) (bytes_of kept.contents) ∷ Print lines ∷ [], inl refl, inr (why, c.in_err-keep_content-in-Kept.ensures c.args.out.now, refl)))
+
+pub returns-in_ok-keep_content-in-Kept-clause-does : goal.returns-in_ok-keep_content-in-Kept-clause-does
+returns-in_ok-keep_content-in-Kept-clause-does g c =
+    let kept = c.in-Kept.kept in let lines = c.in-Kept.lines.items in
+    let between = world (g.S.Store.files c.keep_content.new.store) (g.S.Store.failures c.keep_content.new.store) c.args.out.now in
+    over _ _ _ _ _ _ _ c.in-Kept.is (
+      Keep (g.S.Hold.Hold.file kept.place) (bytes_of kept.contents) ∷ Print lines ∷ [],
+      inl refl,
+      inl (
+        between,
+        c.in_ok-keep_content-in-Kept.ensures c.args.out.now,
+        printed _ _ _ _ c.args.out.now c.print_all-in-Kept.new.out lines c.deref-in-Kept.result.now c.print_all-in-Kept.result refl refl c.deref-in-Kept.ensures.value c.print_all-in-Kept.ensures,
+      ),
+    )
+
+pub returns-in_err-print_all-in-Received-clause-does : goal.returns-in_err-print_all-in-Received-clause-does
+returns-in_err-print_all-in-Received-clause-does g c =
+    let why = c.in_err-print_all-in-Received.field-0.0 in let lines = c.in-Received.lines.items in
+    let is : c.from_residual-in_err-print_all-in-Received.result ≡ Err why = search rules in
+    rw is (over _ _ _ _ _ _ _ c.in-Received.is (
+      Print lines ∷ keeps g.S.Hold.Hold.file c.in-Received.refused c.in-Received.desk,
+      inl refl,
+      inr (
+        why,
+        acted_print _ _ _ _ c.args.out.now c.print_all-in-Received.new.out lines (Err why) refl refl
+            (subst (λ (bs : List ℕ). Prints bs c.args.out.now c.print_all-in-Received.new.out (Err why)) c.deref-in-Received.ensures.value c.in_err-print_all-in-Received.ensures),
+        refl,
+      ),
+    ))
+
+pub returns-in_ok-print_all-in-Received-clause-does : goal.returns-in_ok-print_all-in-Received-clause-does
+returns-in_ok-print_all-in-Received-clause-does g c =
+    let lines = c.in-Received.lines.items in
+    let between = world (g.S.Store.files c.args.store.now) (g.S.Store.failures c.args.store.now) c.print_all-in-Received.new.out in
+    over _ _ _ _ _ _ _ c.in-Received.is (
+      Print lines ∷ keeps g.S.Hold.Hold.file c.in-Received.refused c.in-Received.desk,
+      inl refl,
+      inl (
+        between,
+        acted_print _ _ _ _ c.args.out.now c.print_all-in-Received.new.out lines (Ok tt) refl refl
+            (subst (λ (bs : List ℕ). Prints bs c.args.out.now c.print_all-in-Received.new.out (Ok tt)) c.deref-in-Received.ensures.value c.in_ok-print_all-in-Received.ensures),
+        c.keep_received.ensures c.print_all-in-Received.new.out,
+      ),
+    )
+
+pub returns-in-DataSet-clause-does : goal.returns-in-DataSet-clause-does
+returns-in-DataSet-clause-does g c = over _ _ _ _ _ _ _ c.in-DataSet.is (c.export_set.ensures.printed (g.S.Store.files c.args.store.now) (g.S.Store.failures c.args.store.now))
+
+pub returns-in-Desk-clause-does : goal.returns-in-Desk-clause-does
+returns-in-Desk-clause-does g c = over _ _ _ _ _ _ _ c.in-Desk.is (c.export_desk.ensures.printed (g.S.Store.files c.args.store.now) (g.S.Store.failures c.args.store.now))

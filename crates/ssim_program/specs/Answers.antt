@@ -1,0 +1,285 @@
+-- What each command does, by the files: one equation a command.
+use Rattle.std.specs.Prelude.{◌≡◌, ℕ, true, List, [], ◌∷◌, length, map, slice_range}
+use Rattle.std.specs.Prelude.{Option, Some, None, Result, Ok, Err, if◌then◌else◌}
+use Rattle.ssim_values.specs.Station.{is_station}
+use Rattle.ssim_values.specs.declared.designator.Designator.{Designator}
+use Rattle.ssim_values.specs.declared.fault.Fault.TheVariants as value_fault
+use Rattle.ssim_records.specs.Carrier.{CarrierFields}
+use Rattle.ssim_base.specs.Base.{airline_of}
+use Rattle.ssim_base.specs.SavedBase.{IsBaseRecords}
+use Rattle.ssim_base.specs.Timetable.{days_of, itinerary}
+use Rattle.ssim_schedule.specs.FlightPieces.{Divided, divided_among, divided_flights}
+use Rattle.ssim_text.specs.Lines.{day_in}
+use Rattle.ssim_held.specs.Entries.{AreRising, DeskSeen}
+use Rattle.ssim_held.specs.File.{desk_file}
+use Rattle.ssim_desk.specs.DateSteps.{steps_on}
+use Rattle.ssim_desk.specs.Desk.{days_of_desk, finding_lines, timetable_of}
+use Rattle.ssim_board.specs.InOrder.{board_of}
+use Rattle.ssim_board.specs.Lines.{board_lines}
+use Rattle.ssim_difference.specs.Lines.{difference_lines}
+use Rattle.ssim_outbox.specs.Comparable.{RefusesCarriers}
+use Rattle.ssim_outbox.specs.Publication.{Publishes, RefusesPublication}
+use Rattle.ssim_outbox.specs.declared.fault.OutboxFault.{OutboxFault}
+use Rattle.ssim_page.specs.Page.{IsPage}
+use Rattle.ssim_page.specs.declared.heading.Heading.{Heading}
+use Rattle.ssim_command_line.specs.Line.{Line, Text, Check, Problems, Tidy, Start, Take, Merge, Withdraw}
+use Rattle.ssim_command_line.specs.Line.{Receive, Texts, Show, History, Calendar, Findings, Export}
+use Rattle.ssim_command_line.specs.Line.{Rehearse, Explain, Page, Board, Diff, Publish, Listing}
+use Rattle.ssim_command_line.specs.declared.command_line.ListForm.{ListForm}
+use Rattle.ssim_program.specs.Acts.{Act, Print, Keep, prints, prints_then}
+use Rattle.ssim_program.specs.Exports.{export_in}
+use Rattle.ssim_program.specs.Answer.{Answer, Finds, Gives, Known, OrElse, Require, ◌>>=◌}
+use Rattle.ssim_program.specs.Desks.{desk_in, flight_date, held_line, merged, text_taken}
+use Rattle.ssim_program.specs.Explained.{Explains}
+use Rattle.ssim_program.specs.Files.{Files}
+use Rattle.ssim_program.specs.Made.{AreLinesOn, base_in, data_set_in, problem_lines, problems_in, RefusesLoad}
+use Rattle.ssim_program.specs.Messages.{flights_in, message_texts, messages_on}
+use Rattle.ssim_program.specs.Places.{place_in}
+use Rattle.ssim_program.specs.Receiving.{places_in, receipt_lines, received, received_files}
+use Rattle.ssim_program.specs.Timetables.{carrier_of, timetable_in}
+use Rattle.ssim_program.specs.Withdrawing.{withdrawn}
+use Rattle.ssim_program.specs.rehearse.Rehearsal.{RehearsesFiles, RefusesLines}
+use Rattle.ssim_program.specs.print.Calendar.{calendar_lines}
+use Rattle.ssim_program.specs.print.Listing.{printed_list}
+use Rattle.ssim_program.specs.print.Refusal.{refusal_of_outbox}
+use Rattle.ssim_program.specs.print.Shown.{findings_lines, history_lines, shown_flight}
+use Rattle.ssim_program.specs.declared.content_kind.ContentKind.TheVariants as kind
+use Rattle.ssim_program.specs.declared.refusal.Refusal.TheVariants as refused
+
+-- ---- on a data set
+
+-- a line for each note, and the summary
+abbrev pub check : Option Files → Text → Answer (List ℕ)
+check files name = do
+  set ← data_set_in files name
+  Finds (AreLinesOn set.0 set.1)
+
+-- a line for each invalid record, and their number
+abbrev pub problems : Option Files → Text → Answer (List ℕ)
+problems files name = do
+  found ← problems_in files name
+  Gives (problem_lines found)
+
+-- the canonical export of a data set
+abbrev pub tidy : Option Files → Text → Answer (List Act)
+tidy files name = do
+  set ← data_set_in files name
+  prints (export_in set.0 (days_of set.0))
+
+-- ---- desks that are kept
+
+-- The desk file of this desk is kept, and then the lines are printed. Its messages are in order of
+-- reference.
+abbrev pub keeps_desk : Text → DeskSeen → List ℕ → Answer (List Act)
+keeps_desk out desk lines =
+    Known (AreRising desk.held) (Keep out (desk_file desk.base desk.held) ∷ Print lines ∷ [])
+
+-- A new desk, which holds no message. The records of its base can be written.
+abbrev pub start : Option Files → Text → Text → Text → Answer (List Act)
+start files dataset stations out = do
+  place ← place_in files out kind.DeskFile
+  base ← base_in files dataset stations
+  Known (IsBaseRecords base.records) (Keep out (desk_file base []) ∷ Print (held_line 0) ∷ [])
+
+-- The texts in the files of these names are taken one after another, and each line is printed as it
+-- is made. At last the desk is kept.
+abbrev pub take_each : Option Files → Text → List Text → DeskSeen → Answer (List Act)
+take_each files out [] desk =
+    Known (AreRising desk.held) (Keep out (desk_file desk.base desk.held) ∷ [])
+take_each files out (name ∷ names) desk = do
+  taken ← text_taken files name desk
+  prints_then taken.1 (take_each files out names taken.0)
+
+-- the desk in a file takes texts
+abbrev pub take : Option Files → Text → Text → List Text → Answer (List Act)
+take files file out names = do
+  place ← place_in files out kind.DeskFile
+  desk ← desk_in files file
+  take_each files out names desk
+
+-- The desk in a file tries the texts of mailboxes. The line of each is printed, the refused texts
+-- are kept, if a name is given, and then the desk.
+abbrev pub receive : Option Files → Option Text → Text → Text → List Text → Answer (List Act)
+receive files refused file out names = do
+  places ← places_in files refused file out names
+  result ← received files file names
+  Gives (Print (receipt_lines result.0) ∷ received_files refused out result.0 result.1)
+
+-- a desk that holds what two desks hold, and the number of its messages
+abbrev pub merge : Option Files → Text → Text → Text → Answer (List Act)
+merge files file other out = do
+  place ← place_in files out kind.DeskFile
+  mine ← desk_in files file
+  theirs ← desk_in files other
+  after ← merged mine theirs
+  keeps_desk out after (held_line (length after.held))
+
+-- a desk without the messages of these references, and a line for each
+abbrev pub withdraw : Option Files → Text → Text → List Text → Answer (List Act)
+withdraw files file out references = do
+  place ← place_in files out kind.DeskFile
+  desk ← desk_in files file
+  left ← withdrawn references desk
+  keeps_desk out left.0 left.1
+
+-- ---- what a desk holds
+
+-- the texts of its messages; with flights, of those that name one of them
+abbrev pub texts : Option Files → Text → List Text → Answer (List ℕ)
+texts files file words = do
+  desk ← desk_in files file
+  flights ← flights_in (airline_of desk.base.records) words
+  Gives (message_texts (messages_on flights desk.held))
+
+-- a flight on a date
+abbrev pub show : Option Files → Text → Text → Text → Answer (List ℕ)
+show files file flight date = do
+  desk ← desk_in files file
+  named ← flight_date (airline_of desk.base.records) flight date
+  Gives (shown_flight named.0 named.1 (timetable_of desk named.0.flight named.1))
+
+-- what the data set has for a flight on a date, and what each sub-message did with it
+abbrev pub history : Option Files → Text → Text → Text → Answer (List ℕ)
+history files file flight date = do
+  desk ← desk_in files file
+  named ← flight_date (airline_of desk.base.records) flight date
+  Gives (history_lines named.0 named.1 (itinerary desk.base.records named.0.flight named.1)
+      (steps_on desk named.0.flight named.1))
+
+-- what each sub-message found
+abbrev pub findings : Option Files → Text → Answer (List ℕ)
+findings files file = do
+  desk ← desk_in files file
+  Gives (findings_lines (finding_lines desk))
+
+-- the canonical export of what a desk has
+abbrev pub export : Option Files → Text → Answer (List Act)
+export files file = do
+  desk ← desk_in files file
+  prints (export_in desk.base.records (days_of_desk desk))
+
+-- ---- timetables of desks or data sets
+
+-- The departures and arrivals at a station on a local date. The airline and the time mode are those
+-- of the carrier record.
+abbrev pub board : Option Files → Text → Text → Text → Answer (List ℕ)
+board files file station date = do
+  desk ← timetable_in files file
+  here ← Require (is_station station ≡ true) (refused.Value value_fault.BadStation)
+  day ← OrElse (day_in date) (refused.Value value_fault.BadDate)
+  carrier ← carrier_of desk.base.records
+  Gives (board_lines carrier.airline day (board_of
+      (record { station = station; day = day; mode = carrier.time_mode }) (days_of_desk desk)))
+
+-- the flights with the pieces of their dates, by number and then by suffix: all that fly on some
+-- date if none is named, or else those that are named, each once
+abbrev pub chosen : DeskSeen → List Designator → List Divided
+chosen desk [] = divided_flights (days_of_desk desk)
+chosen desk (flight ∷ later) =
+    divided_among (map (λ d. d.flight) (flight ∷ later)) (days_of_desk desk)
+
+-- the chosen flights in a form
+abbrev pub list : Option Files → ListForm → Text → List Text → Answer (List ℕ)
+list files form file words = do
+  desk ← timetable_in files file
+  flights ← flights_in (airline_of desk.base.records) words
+  Gives (printed_list form (airline_of desk.base.records) (chosen desk flights))
+
+-- the calendar of a flight
+abbrev pub calendar : Option Files → Text → Text → Answer (List ℕ)
+calendar files file word = do
+  desk ← timetable_in files file
+  flights ← flights_in (airline_of desk.base.records) (word ∷ [])
+  Finds (λ lines. (flight : Designator) × (flights ≡ flight ∷ [])
+      × (lines ≡ calendar_lines flight (days_of_desk desk flight.flight)))
+
+-- the airline, the season in columns 11 to 13, and the time mode of a carrier record
+abbrev pub heading_of : CarrierFields → Heading
+heading_of r = record {
+  airline = r.airline;
+  season = slice_range r.season 5 8;
+  time_mode = r.time_mode;
+}
+
+-- a page of the flights that fly on some date, under the heading of the carrier record
+abbrev pub page : Option Files → Text → Answer (List ℕ)
+page files file = do
+  desk ← timetable_in files file
+  carrier ← carrier_of desk.base.records
+  Finds (IsPage (heading_of carrier) (divided_flights (days_of_desk desk)))
+
+-- the carrier records are of one airline (else 41) and one time mode (else 40)
+abbrev pub compared : CarrierFields → CarrierFields → Answer (Unit {0})
+compared mine theirs (Ok x) =
+    (theirs.airline ≡ mine.airline) × (theirs.time_mode ≡ mine.time_mode)
+compared mine theirs (Err why) =
+    (fault : OutboxFault) × RefusesCarriers mine theirs fault × (why ≡ refusal_of_outbox fault)
+
+-- on which dates the second desk differs from the first
+abbrev pub differences : DeskSeen → DeskSeen → Answer (List ℕ)
+differences old new = do
+  mine ← carrier_of old.base.records
+  theirs ← carrier_of new.base.records
+  same ← compared mine theirs
+  Gives (difference_lines mine.airline (days_of_desk old) (days_of_desk new))
+
+-- on which dates two timetables differ
+abbrev pub diff : Option Files → Text → Text → Answer (List ℕ)
+diff files from to = do
+  old ← timetable_in files from
+  new ← timetable_in files to
+  differences old new
+
+-- the lines and the mail by which the first desk is led to the second
+abbrev pub published : DeskSeen → DeskSeen → Text → Answer (List ℕ × List ℕ)
+published old new reference (Ok made) = Publishes old new reference made.0 made.1
+published old new reference (Err why) = (fault : OutboxFault)
+    × RefusesPublication old new reference fault × (why ≡ refusal_of_outbox fault)
+
+-- the messages that lead one timetable to another
+abbrev pub publish : Option Files → Text → Text → Text → Text → Answer (List Act)
+publish files from to reference out = do
+  place ← place_in files out kind.Messages
+  old ← timetable_in files from
+  new ← timetable_in files to
+  made ← published old new reference
+  Gives (Keep out made.1 ∷ Print made.0 ∷ [])
+
+-- ---- other commands
+
+-- the lines of a script that is run on desks
+abbrev pub rehearse : Option Files → Text → Text → Text → Answer (List ℕ)
+rehearse files dataset stations script (Ok lines) =
+    RehearsesFiles files dataset stations script lines
+rehearse files dataset stations script (Err why) = RefusesLines files dataset stations script why
+
+-- an explanation of the refusals of a number, or of what is invalid in a file
+abbrev pub explain : Option Files → Text → Answer (List ℕ)
+explain files word (Ok lines) = Explains files word lines
+explain files word (Err why) = RefusesLoad files word why
+
+-- ---- all
+
+-- what each command does
+abbrev pub answers : Line → Option Files → Answer (List Act)
+answers (Check name) files = prints (check files name)
+answers (Problems name) files = prints (problems files name)
+answers (Tidy name) files = tidy files name
+answers (Start dataset stations out) files = start files dataset stations out
+answers (Take file out names) files = take files file out names
+answers (Receive refused file out names) files = receive files refused file out names
+answers (Merge file other out) files = merge files file other out
+answers (Withdraw file out references) files = withdraw files file out references
+answers (Texts file flights) files = prints (texts files file flights)
+answers (Show file flight date) files = prints (show files file flight date)
+answers (History file flight date) files = prints (history files file flight date)
+answers (Board file station date) files = prints (board files file station date)
+answers (Listing form file flights) files = prints (list files form file flights)
+answers (Calendar file flight) files = prints (calendar files file flight)
+answers (Page file) files = prints (page files file)
+answers (Diff from to) files = prints (diff files from to)
+answers (Publish from to reference out) files = publish files from to reference out
+answers (Findings file) files = prints (findings files file)
+answers (Export file) files = export files file
+answers (Rehearse dataset stations script) files = prints (rehearse files dataset stations script)
+answers (Explain word) files = prints (explain files word)

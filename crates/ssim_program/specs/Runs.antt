@@ -1,0 +1,60 @@
+-- What the program does with its words.
+use Rattle.std.specs.Prelude.{◌≡◌, ◌⊎◌, ℕ, true, false, List, [], Ok, Err}
+use Rattle.ssim_command_line.specs.Line.{Line, Text}
+use Rattle.ssim_command_line.specs.Usage.{HasFault, IsNoCommand, Names}
+use Rattle.ssim_program.specs.Again.{PrintsItself}
+use Rattle.ssim_program.specs.Answers.{answers}
+use Rattle.ssim_program.specs.World.{Does, PrintsRefusal, World}
+use Rattle.ssim_program.specs.print.Paper.{Breaks, Grows, Paper, PrintsOrFails}
+use Rattle.ssim_program.specs.declared.refusal.Refusal.{Refusal}
+use Rattle.ssim_program.specs.declared.refusal.Refusal.TheVariants as refused
+
+-- ---- a command
+
+-- The status is 0 if a command is done, and `err` is as it was; what `tidy` and `export` print is
+-- read as itself. The status is 1 if it is refused, and `err` has taken the line of the refusal.
+abbrev pub Obeys : Line → World → World → Paper → Paper → ℕ → Type 0
+Obeys line before after err err' status =
+    ((status ≡ 0) × Does (answers line before.files) before after (Ok tt)
+    × PrintsItself line before.out.taken after.out.taken × (err' ≡ err))
+    ⊎ ((status ≡ 1) × (refusal : Refusal)
+    × Does (answers line before.files) before after (Err refusal) × PrintsRefusal refusal err err')
+
+-- ---- other words, for which `clap` makes a text: which text it is, is not specified
+
+-- help was printed: `out` has taken a text, and was flushed after it; and `err` is as it was
+abbrev pub PrintsHelp : Paper → Paper → Paper → Paper → Type 0
+PrintsHelp out out' err err' =
+    ((text : List ℕ) × Grows text out out') × (out'.flushed ≡ true) × (err' ≡ err)
+
+-- Help was not printed. Either memory ran out (90), and `out` is as it was; or a call of `out`
+-- failed (52), and it took a prefix of a text. `err` has taken the line of that refusal.
+abbrev pub RefusesHelp : Paper → Paper → Paper → Paper → Type 0
+RefusesHelp out out' err err' =
+    (refusal : Refusal)
+    × (((refusal ≡ refused.Memory) × Grows [] out out')
+    ⊎ ((refusal ≡ refused.WriteFault) × (text : List ℕ) × Breaks text out out'))
+    × PrintsRefusal refusal err err'
+
+-- the words are wrong: `out` is as it was, and `err` has taken a text that says so, or a call of it
+-- failed and it took a prefix
+abbrev pub SaysWrong : Paper → Paper → Paper → Paper → Type 0
+SaysWrong out out' err err' = Grows [] out out' × (text : List ℕ) × PrintsOrFails text err err'
+
+-- The words ask for help, which is printed (0) or refused (1); or they are wrong, or name no command
+-- (2); or memory ran out before they were read (1).
+abbrev pub Replies : List Text → Paper → Paper → Paper → Paper → ℕ → Type 0
+Replies words out out' err err' status =
+    (HasFault words true × (((status ≡ 0) × PrintsHelp out out' err err')
+    ⊎ ((status ≡ 1) × RefusesHelp out out' err err')))
+    ⊎ ((HasFault words false ⊎ IsNoCommand words) × (status ≡ 2) × SaysWrong out out' err err')
+    ⊎ ((status ≡ 1) × (out' ≡ out) × PrintsRefusal refused.Memory err err')
+
+-- ---- all words
+
+-- The words name a command, which is obeyed. Or they are answered, and no file changes.
+abbrev pub Runs : List Text → World → World → Paper → Paper → ℕ → Type 0
+Runs words before after err err' status =
+    ((line : Line) × Names words line × Obeys line before after err err' status)
+    ⊎ (Replies words before.out after.out err err' status
+    × (after.files ≡ before.files) × (after.failures ≡ before.failures))

@@ -1,0 +1,63 @@
+//! Exports that are printed while they are made.
+
+ghost use Rattle.std.specs.Prelude.{◌≡◌, List, OnOk};
+ghost use Rattle.ssim_values.specs.Flight.{FlightNumber};
+ghost use Rattle.ssim_records.specs.declared.record.Record.{Record};
+ghost use Rattle.ssim_base.specs.Base.{airline_of};
+ghost use Rattle.ssim_base.specs.Timetable.{Days, days_of};
+ghost use Rattle.ssim_desk.specs.Desk.{days_of_desk};
+ghost use Rattle.ssim_program.specs.Again.{GrowsByItself};
+ghost use Rattle.ssim_program.specs.internal.Export.{IsWritten, PrintsExport};
+ghost use Rattle.ssim_program.specs.print.Paper.{Paper};
+
+use crate::print::printer::Printer;
+use crate::refusal::Refusal;
+use ssim_base::DataSet;
+use ssim_desk::Holdings;
+use ssim_schedule::{ExportFault, export_data_set};
+use ssim_values::Airline;
+use std::io::Write;
+
+/// Prints the canonical export of a data set.
+pub(crate) fn export_set<W: Write>(
+    data_set: DataSet,
+    out: &mut Printer<'_, W>,
+) -> Result<(), Refusal>
+    ensures printed { PrintsExport data_set (days_of data_set) out.old out.new result }
+    ensures again { OnOk result (GrowsByItself out.old.taken out.new.taken) }
+{
+    let airline = data_set.airline();
+    let written = export_data_set(data_set, out);
+    end_export(airline, written, out)
+}
+
+/// Prints the canonical export of what a desk has.
+pub(crate) fn export_desk<W: Write>(desk: Holdings, out: &mut Printer<'_, W>) -> Result<(), Refusal>
+    ensures printed { PrintsExport desk.base.records (days_of_desk desk) out.old out.new result }
+    ensures again { OnOk result (GrowsByItself out.old.taken out.new.taken) }
+{
+    let airline = desk.data_set().airline();
+    let written = desk.export(out);
+    end_export(airline, written, out)
+}
+
+/// Flushes `out` after an export of this airline's flights was written to it; or makes the refusal
+/// of the export's fault.
+fn end_export<W: Write>(
+    airline: Airline,
+    written: Result<(), ExportFault>,
+    out: &mut Printer<'_, W>,
+) -> Result<(), Refusal>
+    // The export is one of these days over this base, and the printer was `before` when it began.
+    ensures printed { (base : List Record) (days : FlightNumber → Days) (before : Paper)
+        → airline ≡ airline_of base → IsWritten base days before out.old written
+        → PrintsExport base days before out.new result }
+    ensures again { (base : List Record) (days : FlightNumber → Days) (before : Paper)
+        → IsWritten base days before out.old written
+        → OnOk result (GrowsByItself before.taken out.new.taken) }
+{
+    match written {
+        Ok(()) => out.flush(),
+        Err(fault) => Err(Refusal::of_export(airline, fault)),
+    }
+}

@@ -1,0 +1,68 @@
+//! What a command has made is printed and kept, one act after another.
+
+ghost use Rattle.std.specs.Prelude.{OnOk};
+ghost use Rattle.ssim_program.specs.World.{Does, Performs, world};
+ghost use Rattle.ssim_program.specs.internal.Program.{MadeItself, keeps, will};
+ghost use Rattle.ssim_program.specs.print.Paper.{Paper};
+
+use crate::command::take::take_texts;
+use crate::export::{export_desk, export_set};
+use crate::hold::keep_content;
+use crate::made::{Kept, Made};
+use crate::print::printer::{Printer, print_all};
+use crate::refusal::Refusal;
+use crate::store::Store;
+use std::alloc::Global;
+use std::io::Write;
+
+/// Keeps the refused texts, if there is a place for them, and then the desk.
+fn keep_received<S: Store>(
+    alloc: Global,
+    refused: &Option<Kept<S::Hold>>,
+    desk: &Kept<S::Hold>,
+    store: &mut S,
+) -> Result<(), Refusal>
+    ensures { (out : Paper) → Performs (keeps S.Hold.file refused.now desk.now)
+        (world (S.files store.old) (S.failures store.old) out)
+        (world (S.files store.new) (S.failures store.new) out) result }
+{
+    match refused {
+        None => keep_content(alloc, &desk.contents, &desk.place, store),
+        Some(kept) => {
+            keep_content(alloc, &kept.contents, &kept.place, store)?;
+            keep_content(alloc, &desk.contents, &desk.place, store)
+        }
+    }
+}
+
+/// Prints and keeps what a command has made.
+pub(crate) fn finish<S: Store, W: Write>(
+    alloc: Global,
+    made: Made<'_, S::Hold>,
+    store: &mut S,
+    out: &mut Printer<'_, W>,
+) -> Result<(), Refusal>
+    ensures does { Does (will S.Hold.file (S.files store.old) made.entry)
+        (world (S.files store.old) (S.failures store.old) out.old)
+        (world (S.files store.new) (S.failures store.new) out.new) result }
+    ensures again { OnOk result (MadeItself made.entry out.old.taken out.new.taken) }
+{
+    match made {
+        Made::Lines(lines) => print_all(out, &lines),
+        Made::Kept { kept, lines } => {
+            keep_content(alloc, &kept.contents, &kept.place, store)?;
+            print_all(out, &lines)
+        }
+        Made::Received {
+            lines,
+            refused,
+            desk,
+        } => {
+            print_all(out, &lines)?;
+            keep_received(alloc, &refused, &desk, store)
+        }
+        Made::DataSet(data_set) => export_set(data_set, out),
+        Made::Desk(desk) => export_desk(desk, out),
+        Made::Texts { place, desk, names } => take_texts(alloc, &place, desk, names, store, out),
+    }
+}

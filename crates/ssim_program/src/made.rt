@@ -1,0 +1,66 @@
+//! What a command has made, before it is printed and kept.
+
+ghost use Rattle.std.specs.Prelude.{◌≡◌};
+ghost use Rattle.ssim_program.specs.internal.Program.{bytes_of};
+
+use crate::content::Content;
+use crate::store::Hold;
+use ssim_base::{DataSet, WriteFault};
+use ssim_desk::{Holdings, Intake};
+use ssim_records::Sink;
+
+/// What is kept in a file.
+#[derive(Drop)]
+pub(crate) enum Contents {
+    /// The desk file of what a desk holds.
+    DeskFile(Holdings),
+    /// Bytes as they are.
+    Bytes(Vec<u8>),
+}
+
+impl Content for Contents {
+    ghost bytes = { bytes_of };
+
+    fn put<W: Sink>(&self, out: &mut W) -> Result<(), WriteFault> {
+        match self {
+            Contents::DeskFile(desk) => desk.put(out),
+            Contents::Bytes(bytes) => bytes.put(out),
+        }
+    }
+}
+
+/// What is kept, and the place that is held for it.
+#[derive(Drop)]
+pub(crate) struct Kept<H: Hold + Drop> {
+    pub(crate) place: H,
+    pub(crate) contents: Contents,
+}
+
+/// What a command has made.
+#[derive(Drop)]
+pub(crate) enum Made<'n, H: Hold + Drop> {
+    /// Lines to be printed.
+    Lines(Vec<u8>),
+    /// A file to be kept, and then lines to be printed.
+    Kept {
+        kept: Kept<H>,
+        lines: Vec<u8>,
+    },
+    /// Lines to be printed, and then files to be kept: the refused texts, if there is a place for
+    /// them, and a desk.
+    Received {
+        lines: Vec<u8>,
+        refused: Option<Kept<H>>,
+        desk: Kept<H>,
+    },
+    /// A data set to be exported.
+    DataSet(DataSet),
+    /// A desk to be exported.
+    Desk(Holdings),
+    /// The files of texts that a desk is to take, and the place of the desk.
+    Texts {
+        place: H,
+        desk: Intake,
+        names: &'n [&'n str],
+    },
+}
