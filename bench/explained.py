@@ -30,6 +30,8 @@ WITHIN = {
 def altered(data, rng):
     """The bytes with one place after the first line altered."""
     start = data.find(b"\n") + 1
+    if start == len(data):
+        return data
     at = rng.randrange(start, len(data))
     lines = data[start:].split(b"\n")
     line = rng.randrange(len(lines))
