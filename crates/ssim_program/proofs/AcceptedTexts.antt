@@ -1,6 +1,6 @@
 -- What a desk holds after it received mailboxes: what it held, and what the texts say that it
 -- accepted.
-use Rattle.std.proofs.Common.{◌≡◌, ◌∙◌, ◌⊎◌, ◌↔◌, inl, inr, ℕ, ◌≤◌, ◌<◌, Bool, true, false, List, [], ◌∷◌, ◌++◌, length, Option, Some, None, Ok, cond, refl, sym, ap, subst, arith}
+use Rattle.std.proofs.Common.{◌≡◌, ◌∙◌, ◌⊎◌, ◌↔◌, inl, inr, ℕ, ◌≤◌, ◌<◌, Bool, true, List, [], ◌∷◌, ◌++◌, length, Option, Some, None, Ok, cond, refl, sym, ap, subst, arith}
 use Rattle.std.specs.Prelude.{IfSome}
 use Rattle.std.specs.FinMap.{get}
 use Rattle.std.proofs.lemmas.Bool.Decides.{leb_tells}
@@ -19,7 +19,7 @@ use Rattle.ssim_desk.specs.declared.desk.Took.{Took}
 use Rattle.ssim_desk.specs.declared.desk.Took.TheVariants as took
 use Rattle.ssim_command_line.specs.Line.{Text}
 use Rattle.ssim_program.specs.Files.{Files, file_of}
-use Rattle.ssim_program.specs.Made.{HasFile, IsMissing, file_limit}
+use Rattle.ssim_program.specs.Made.{file_limit}
 use Rattle.ssim_program.specs.Receiving.{Accepted, IsAccepted, Receipt, ReceivesEach, ReceivesFile, Refused, Tries, TriesEach, Unread, texts_received, texts_within}
 use Rattle.ssim_program.proofs.SavedDesks.{IsValid, valid_take}
 

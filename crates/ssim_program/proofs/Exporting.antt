@@ -1,5 +1,5 @@
 -- What an export leaves on a printer, from what the crates below say of it.
-use Rattle.std.proofs.Common.{◌≡◌, inl, inr, ℕ, List, [], ◌∷◌, ◌++◌, Option, OnOk, Result, Ok, Err, refl, sym, ap, subst, append-nil}
+use Rattle.std.proofs.Common.{◌≡◌, inl, inr, ℕ, List, [], ◌∷◌, ◌++◌, OnOk, Result, Ok, Err, refl, ap, subst, append-nil}
 use Rattle.std.specs.Io.KnownBytes.{Appends}
 use Rattle.std.proofs.KnownBytes.{Appends-trans}
 use Rattle.ssim_values.specs.Flight.{FlightNumber}
@@ -12,7 +12,6 @@ use Rattle.ssim_schedule.specs.declared.export.ExportFault.TheVariants.{Variatio
 use Rattle.ssim_program.specs.Acts.{Print, prints}
 use Rattle.ssim_program.specs.Again.{GrowsByItself}
 use Rattle.ssim_program.specs.Exports.{export_in}
-use Rattle.ssim_program.specs.Files.{Files}
 use Rattle.ssim_program.specs.World.{world}
 use Rattle.ssim_program.specs.internal.Export.{IsWritten, PrintsExport}
 use Rattle.ssim_program.specs.print.Paper.{Paper, writer_of}

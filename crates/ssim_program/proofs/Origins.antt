@@ -1,5 +1,5 @@
 -- What the file of a name is after an event, by where it comes from.
-use Rattle.std.proofs.Common.{◌≡◌, ◌∙◌, ℕ, Bool, true, false, if◌then◌else◌, List, [], ◌∷◌, ◌++◌, Option, Some, None, refl, sym, ap, subst, option_map, find}
+use Rattle.std.proofs.Common.{◌≡◌, ◌∙◌, ℕ, Bool, true, false, if◌then◌else◌, List, [], ◌∷◌, Option, Some, None, refl, sym, ap, subst, option_map, find}
 use Rattle.std.specs.Str.{bytes_eq}
 use Rattle.ssim_base.specs.BaseSeen.{BaseSeen}
 use Rattle.ssim_base.specs.SavedBase.{IsBaseRecords}
@@ -10,12 +10,10 @@ use Rattle.ssim_program.specs.Acts.{Act, kept_by}
 use Rattle.ssim_program.specs.Desks.{IsMergeOf, ReadsDesk}
 use Rattle.ssim_program.specs.internal.Take.{TakesTexts}
 use Rattle.ssim_program.specs.Files.{Files, Kept, file_of, with_kept}
-use Rattle.ssim_command_line.specs.Line.{Line, Text, Check, Problems, Tidy, Start, Take, Merge, Withdraw}
-use Rattle.ssim_command_line.specs.Line.{Receive, Texts, Show, History, Calendar, Findings, Export}
-use Rattle.ssim_command_line.specs.Line.{Rehearse, Explain, Page, Board, Diff, Publish, Listing}
+use Rattle.ssim_command_line.specs.Line.{Text}
 use Rattle.ssim_program.specs.Made.{ReadsBase}
-use Rattle.ssim_program.specs.Offices.{Event, Done, Refused, Copied, Came, Leaves, Origin, Was}
-use Rattle.ssim_program.specs.Offices.{Started, Took, Merged, Withdrew, Given, origin_of, Received}
+use Rattle.ssim_program.specs.Offices.{Event, StartKept, TakeKept, ReceiveKept, MergeKept, WithdrawKept, Unchanged, Copied, Came}
+use Rattle.ssim_program.specs.Offices.{Leaves, Origin, Was, Started, Took, Merged, Withdrew, Given, origin_of}
 use Rattle.ssim_program.specs.Offices.{IsReceived, TookSome, origin_of_refused}
 use Rattle.ssim_program.specs.Withdrawing.{WithdrawsFrom}
 use Rattle.ssim_program.specs.Receiving.{Receipt, ReceivesEach, received_files, refused_texts}
@@ -67,52 +65,14 @@ written out name bytes old new origin is comes = written_over out name bytes old
 pub same_some : {A : Type 0} (x y : A) → Some x ≡ Some y → x ≡ y
 same_some x y e = cc
 
--- no file was kept
-unchanged : (name : Text) (acts : List Act) (old new : Files) → kept_by acts ≡ [] → Some new ≡ with_kept (kept_by acts) (Some old) → file_of new name ≡ file_of old name
-unchanged name acts old new none is =
-    ap (λ (all : Files). file_of all name) (same_some new old (is ∙ ap (λ (k : Kept). with_kept k (Some old)) none))
-
 -- a file was kept
 with_file : (out : Text) (bytes : List ℕ) (acts : List Act) (old new : Files) → kept_by acts ≡ (out, bytes) ∷ [] → Some new ≡ with_kept (kept_by acts) (Some old) → new ≡ (out, bytes) ∷ old
 with_file out bytes acts old new some is = same_some new ((out, bytes) ∷ old) (is ∙ ap (λ (k : Kept). with_kept k (Some old)) some)
 
 -- ---- by the event
 
-done_comes : (line : Line) (old new : Files) (name : Text) → Leaves (Done line) old new → Comes (origin_of (Done line) name) old (file_of new name)
-done_comes (Tidy file) old new name (acts, (set, read, (bytes, export, are)), whole, is) = unchanged name acts old new (ap kept_by are) is
-done_comes (Export file) old new name (acts, (desk, read, (bytes, export, are)), whole, is) = unchanged name acts old new (ap kept_by are) is
-done_comes (Start dataset stations out) old new name (acts, (_, may, (base, (notes, read), (records, are))), whole, is) =
-    let bytes = desk_file base [] in
-    written out name bytes old new (Started dataset stations) (with_file out bytes acts old new (ap kept_by are) is) (base, notes, read, records, refl)
-done_comes (Take desk out texts) old new name (acts, (_, may, (before, read, takes)), whole, is) =
-    let taken = are_taken (Some old) out texts before acts takes whole in
-    let bytes = desk_file taken.after.base taken.after.held in
-    written out name bytes old new (Took desk texts) (with_file out bytes acts old new taken.is is) (before, taken.after, taken.printed, read, taken.takes, taken.rising, refl)
-done_comes (Receive refused desk out names) old new name leaves = absurd leaves
-done_comes (Merge one other out) old new name (acts, (_, may, (mine, read, (theirs, reads, (after, is_merge, (rising, are))))), whole, is) =
-    let bytes = desk_file after.base after.held in
-    written out name bytes old new (Merged one other) (with_file out bytes acts old new (ap kept_by are) is) (mine, theirs, after, read, reads, is_merge, rising, refl)
-done_comes (Withdraw desk out references) old new name (acts, (_, may, (before, read, (left, withdraws, (rising, are)))), whole, is) =
-    let after = left.0 in
-    let bytes = desk_file after.base after.held in
-    written out name bytes old new (Withdrew desk references) (with_file out bytes acts old new (ap kept_by are) is) (before, after, left.1, read, withdraws, rising, refl)
-done_comes (Publish from to reference out) old new name leaves = absurd leaves
-done_comes (Check file) old new name (acts, (bytes, made, are), whole, is) = unchanged name acts old new (ap kept_by are) is
-done_comes (Problems file) old new name (acts, (bytes, made, are), whole, is) = unchanged name acts old new (ap kept_by are) is
-done_comes (Texts file flights) old new name (acts, (bytes, made, are), whole, is) = unchanged name acts old new (ap kept_by are) is
-done_comes (Show file flight date) old new name (acts, (bytes, made, are), whole, is) = unchanged name acts old new (ap kept_by are) is
-done_comes (History file flight date) old new name (acts, (bytes, made, are), whole, is) = unchanged name acts old new (ap kept_by are) is
-done_comes (Board file station date) old new name (acts, (bytes, made, are), whole, is) = unchanged name acts old new (ap kept_by are) is
-done_comes (Listing form file flights) old new name (acts, (bytes, made, are), whole, is) = unchanged name acts old new (ap kept_by are) is
-done_comes (Calendar file flight) old new name (acts, (bytes, made, are), whole, is) = unchanged name acts old new (ap kept_by are) is
-done_comes (Page file) old new name (acts, (bytes, made, are), whole, is) = unchanged name acts old new (ap kept_by are) is
-done_comes (Diff from to) old new name (acts, (bytes, made, are), whole, is) = unchanged name acts old new (ap kept_by are) is
-done_comes (Findings file) old new name (acts, (bytes, made, are), whole, is) = unchanged name acts old new (ap kept_by are) is
-done_comes (Rehearse dataset stations script) old new name (acts, (bytes, made, are), whole, is) = unchanged name acts old new (ap kept_by are) is
-done_comes (Explain word) old new name (acts, (bytes, made, are), whole, is) = unchanged name acts old new (ap kept_by are) is
-
 received_comes : (refused : Option Text) (desk out : Text) (names : List Text) (receipts : List Receipt) (old new : Files) (name : Text) → IsReceived refused desk out names receipts old new
-    → Comes (origin_of (Received refused desk out names receipts) name) old (file_of new name)
+    → Comes (origin_of (ReceiveKept refused desk out names receipts) name) old (file_of new name)
 received_comes refused desk out names receipts old new name (after, (before, reads, (each, rising)), is) = by refused is
   where
     bytes : List ℕ
@@ -130,8 +90,21 @@ received_comes refused desk out names receipts old new name (after, (before, rea
         written_over out name bytes old mid new (TookSome desk names receipts) (origin_of_refused (Some other) texts name) (same_some new ((out, bytes) ∷ mid) all) desk_comes (written other name texts old mid (Given texts) refl refl)
 
 pub comes : (event : Event) (old new : Files) (name : Text) → Leaves event old new → Comes (origin_of event name) old (file_of new name)
-comes (Done line) old new name leaves = done_comes line old new name leaves
-comes (Received refused desk out names receipts) old new name leaves = received_comes refused desk out names receipts old new name leaves
-comes (Refused line) old new name leaves = ap (λ (all : Files). file_of all name) leaves
+comes (StartKept dataset stations out) old new name (acts, (_, may, (base, (notes, read), (records, are))), whole, is) =
+    let bytes = desk_file base [] in
+    written out name bytes old new (Started dataset stations) (with_file out bytes acts old new (ap kept_by are) is) (base, notes, read, records, refl)
+comes (TakeKept desk out texts) old new name (acts, (_, may, (before, read, takes)), whole, is) =
+    let taken = are_taken (Some old) out texts before acts takes whole in
+    let bytes = desk_file taken.after.base taken.after.held in
+    written out name bytes old new (Took desk texts) (with_file out bytes acts old new taken.is is) (before, taken.after, taken.printed, read, taken.takes, taken.rising, refl)
+comes (ReceiveKept refused desk out names receipts) old new name leaves = received_comes refused desk out names receipts old new name leaves
+comes (MergeKept one other out) old new name (acts, (_, may, (mine, read, (theirs, reads, (after, is_merge, (rising, are))))), whole, is) =
+    let bytes = desk_file after.base after.held in
+    written out name bytes old new (Merged one other) (with_file out bytes acts old new (ap kept_by are) is) (mine, theirs, after, read, reads, is_merge, rising, refl)
+comes (WithdrawKept desk out references) old new name (acts, (_, may, (before, read, (left, withdraws, (rising, are)))), whole, is) =
+    let after = left.0 in
+    let bytes = desk_file after.base after.held in
+    written out name bytes old new (Withdrew desk references) (with_file out bytes acts old new (ap kept_by are) is) (before, after, left.1, read, withdraws, rising, refl)
+comes Unchanged old new name leaves = ap (λ (all : Files). file_of all name) leaves
 comes (Copied from to) old new name (bytes, is, all) = written to name bytes old new (Was from) all (sym is)
 comes (Came other bytes) old new name leaves = written other name bytes old new (Given bytes) leaves refl

@@ -1,14 +1,14 @@
 -- Texts that are taken one after another: one more, or none.
-use Rattle.std.proofs.Common.{◌≡◌, ◌∙◌, inl, inr, ℕ, true, false, true≢false, List, [], ◌∷◌, ◌++◌, Option, Result, Ok, Err, refl, sym, ap, subst}
+use Rattle.std.proofs.Common.{◌≡◌, ◌∙◌, inl, inr, ℕ, true, true≢false, List, [], ◌∷◌, ◌++◌, Option, Result, Ok, Err, refl, sym, ap}
 use Rattle.ssim_held.specs.Entries.{AreRising, DeskSeen}
 use Rattle.ssim_held.specs.File.{desk_file}
 use Rattle.ssim_command_line.specs.Line.{Text}
-use Rattle.ssim_program.specs.Acts.{Act, Acts, Print, Keep, Stop, is_whole, kept_by}
+use Rattle.ssim_program.specs.Acts.{Act, Print, Keep, Stop, is_whole, kept_by}
 use Rattle.ssim_program.specs.Answers.{take, take_each}
 use Rattle.ssim_program.specs.Places.{MayReplace}
 use Rattle.ssim_program.specs.declared.content_kind.ContentKind.TheVariants as kind
 use Rattle.ssim_program.specs.Desks.{ReadsDesk, RefusesFileText, TakesText}
-use Rattle.ssim_program.specs.Files.{Files, Kept}
+use Rattle.ssim_program.specs.Files.{Files}
 use Rattle.ssim_program.specs.World.{Acted, Does, World}
 use Rattle.ssim_program.specs.internal.Take.{TakesTexts}
 use Rattle.ssim_program.specs.declared.refusal.Refusal.{Refusal}

@@ -1,10 +1,9 @@
 -- What the commands on desk files read, make and print, and why they are refused.
-use Rattle.std.specs.Prelude.{◌≡◌, ◌≢◌, ◌⊎◌, ℕ, ◌+◌, ◌%◌, ◌^◌, List, [], ◌∷◌, ◌++◌, take, slice_get, Option}
-use Rattle.std.specs.Prelude.{Some, None, Result, Ok, Err}
+use Rattle.std.specs.Prelude.{◌≡◌, ◌⊎◌, ℕ, List, Option}
+use Rattle.std.specs.Prelude.{Ok, Err}
 use Rattle.ssim_values.specs.Designator.{SpellsDesignator}
 use Rattle.ssim_values.specs.declared.designator.Designator.{Designator}
 use Rattle.ssim_values.specs.declared.fault.Fault.TheVariants as value_fault
-use Rattle.ssim_base.specs.Base.{airline_of}
 use Rattle.ssim_base.specs.BaseSeen.{BaseSeen}
 use Rattle.ssim_base.specs.Export.{line}
 use Rattle.ssim_base.specs.declared.resolution.ResolveFault.TheVariants as resolve_fault
@@ -16,9 +15,7 @@ use Rattle.ssim_held.specs.Held.{Says}
 use Rattle.ssim_held.specs.Entries.{DeskSeen, Entry, map_of, state_of}
 use Rattle.ssim_held.specs.declared.fault.DeskFault.{DeskFault}
 use Rattle.ssim_held.specs.declared.fault.DeskFault.TheVariants as desk_fault
-use Rattle.ssim_base.specs.Timetable.{itinerary}
-use Rattle.ssim_desk.specs.DateSteps.{steps_on}
-use Rattle.ssim_desk.specs.Desk.{days_of_desk, take_answer, timetable_of}
+use Rattle.ssim_desk.specs.Desk.{take_answer}
 use Rattle.ssim_desk.specs.Steps.{Merges, RefusesDesk, RefusesText, Takes}
 use Rattle.ssim_desk.specs.declared.desk.Took.{Took}
 use Rattle.ssim_desk.specs.declared.desk.Took.TheVariants as took
@@ -28,10 +25,7 @@ use Rattle.ssim_command_line.specs.Line.{Text}
 use Rattle.ssim_program.specs.Answer.{Answer, Gives, OneOr, OrElse, Require, ◌>>=◌}
 use Rattle.ssim_program.specs.Made.{HasFile, RefusesLoad}
 use Rattle.ssim_program.specs.print.PrintedLine.{printed_text}
-use Rattle.ssim_program.specs.print.Refusal.{IsOfFile, SaysBusy, SaysOccupied, refusal_of_desk}
-use Rattle.ssim_program.specs.Places.{IsOccupied}
-use Rattle.ssim_program.specs.declared.content_kind.ContentKind.{ContentKind}
-use Rattle.ssim_program.specs.print.Shown.{history_lines, shown_flight}
+use Rattle.ssim_program.specs.print.Refusal.{refusal_of_desk}
 use Rattle.ssim_program.specs.declared.print.printed_line.PrintedLine.{PrintedLine}
 use Rattle.ssim_program.specs.declared.print.printed_line.PrintedLine.TheVariants as printed
 use Rattle.ssim_program.specs.declared.refusal.Refusal.{Refusal}

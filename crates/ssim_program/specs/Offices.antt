@@ -11,9 +11,10 @@ use Rattle.ssim_held.specs.File.{IsDeskFile}
 use Rattle.ssim_held.specs.Held.{Holds, Says}
 use Rattle.ssim_program.specs.Desks.{ReadsDesk}
 use Rattle.ssim_program.specs.Acts.{Act, Acts, is_whole, kept_by, printed_by}
-use Rattle.ssim_program.specs.Answers.{answers}
+use Rattle.ssim_program.specs.Answer.{Answer}
+use Rattle.ssim_program.specs.Answers.{answers, merge, start, take, withdraw}
 use Rattle.ssim_program.specs.Files.{Files, file_of, with_kept}
-use Rattle.ssim_command_line.specs.Line.{Line, Text, Start, Take, Merge, Withdraw, Receive, Publish}
+use Rattle.ssim_command_line.specs.Line.{Line, Text}
 use Rattle.ssim_program.specs.Receiving.{IsAccepted, Receipt, received, received_files}
 use Rattle.ssim_program.specs.Receiving.{refused_texts, texts_received}
 use Rattle.ssim_program.specs.World.{Does, World}
@@ -23,16 +24,10 @@ use Rattle.ssim_program.specs.Withdrawing.{IsNamed}
 
 -- ---- what a command leaves, whatever its status
 
--- the command has done all that it does by the old files, and the new files are these with the
--- files that it keeps
-abbrev pub IsMade : Line → Option Files → Option Files → Type 0
-IsMade line old new = (acts : List Act) × answers line old (Ok acts) × (is_whole acts ≡ true)
-    × (new ≡ with_kept (kept_by acts) old)
-
--- The command has done some of its acts, from the first on: all, so that it is made, or those before
--- one that failed. So a call of the program on the words of a command is an event of a history:
--- `Done` (`Received` for `receive`, and `Came` of its messages for `publish`), or `Refused`, or, if
--- only the refused texts of `receive` were kept, `Came` of that file.
+-- The command has done some of its acts, from the first on: all, or those before one that failed. So
+-- a call of the program on the words of a command is an event of a history: that the command kept a
+-- desk; or `Came`, of the messages of `publish`, or of refused texts of `receive` whose desk was not
+-- kept; or `Unchanged`.
 abbrev pub Did : Line → Option Files → Option Files → Type 0
 Did line old new = (done : List Act) × (later : List Act)
     × Acts (answers line old) (done ++ later) × (new ≡ with_kept (kept_by done) old)
@@ -44,16 +39,19 @@ CommandsAreEvents = (line : Line) (before after : World) (result : Result (Unit 
 
 -- ---- histories
 
--- What happens to named files: a command is done, and if it is `receive`, what became of each text;
--- a command is refused, and they stay as they were; a file is copied under another name; a file
--- comes from elsewhere, as a telegram does. The messages that `publish` keeps are such a file: it
--- makes no desk.
+-- What happens to named files: a command keeps a desk; the files stay as they are, as after a command
+-- that looks or is refused; a file is copied under another name; or a file comes from elsewhere, as
+-- a telegram does. The messages that `publish` keeps are such a file: it makes no desk.
 pub data Event : Type 0 where
-  Done : Line → Event
-  Received : Option Text → Text → Text → List Text → List Receipt → Event
-  Refused : Line → Event
-  Copied : Text → Text → Event
-  Came : Text → List ℕ → Event
+  StartKept : (dataset stations out : Text) → Event
+  TakeKept : (desk out : Text) (texts : List Text) → Event
+  ReceiveKept : (refused : Option Text) (desk out : Text) (names : List Text)
+      (receipts : List Receipt) → Event
+  MergeKept : (mine theirs out : Text) → Event
+  WithdrawKept : (desk out : Text) (references : List Text) → Event
+  Unchanged : Event
+  Copied : (from to : Text) → Event
+  Came : (name : Text) (bytes : List ℕ) → Event
 
 -- a history: the files at the beginning, and then events, each with the files after it
 pub data History : Type 0 where
@@ -65,6 +63,11 @@ abbrev pub files_of : History → Files
 files_of (Began files) = files
 files_of (Then history event files) = files
 
+-- all acts of the answer were done, and the new files are the old ones with the files that are kept
+abbrev pub IsDone : Answer (List Act) → Files → Files → Type 0
+IsDone answer old new = (acts : List Act) × answer (Ok acts) × (is_whole acts ≡ true)
+    × (Some new ≡ with_kept (kept_by acts) (Some old))
+
 -- the desk in a file has received texts, with these receipts, and the new files are the old ones with
 -- the files that are kept of it
 abbrev pub IsReceived : Option Text → Text → Text → List Text → List Receipt → Files → Files → Type 0
@@ -72,16 +75,17 @@ IsReceived refused desk out names receipts old new = (after : DeskSeen)
     × received (Some old) desk names (Ok (receipts, after))
     × (Some new ≡ with_kept (kept_by (received_files refused out receipts after)) (Some old))
 
--- The event leaves these files. No `receive` and no `publish` is an event `Done`: a
--- `receive` is an event `Received`, which has the receipts too, and a `publish` is an event `Came`,
--- of the messages' file.
+-- the event leaves these files
 abbrev pub Leaves : Event → Files → Files → Type 0
-Leaves (Done (Receive refused desk out names)) old new = ⊥
-Leaves (Done (Publish from to reference out)) old new = ⊥
-Leaves (Done line) old new = IsMade line (Some old) (Some new)
-Leaves (Received refused desk out names receipts) old new =
+Leaves (StartKept dataset stations out) old new =
+    IsDone (start (Some old) dataset stations out) old new
+Leaves (TakeKept desk out texts) old new = IsDone (take (Some old) desk out texts) old new
+Leaves (ReceiveKept refused desk out names receipts) old new =
     IsReceived refused desk out names receipts old new
-Leaves (Refused line) old new = new ≡ old
+Leaves (MergeKept mine theirs out) old new = IsDone (merge (Some old) mine theirs out) old new
+Leaves (WithdrawKept desk out references) old new =
+    IsDone (withdraw (Some old) desk out references) old new
+Leaves Unchanged old new = new ≡ old
 Leaves (Copied from to) old new =
     (bytes : List ℕ) × (file_of old from ≡ Some bytes) × (new ≡ (to, bytes) ∷ old)
 Leaves (Came name bytes) old new = new ≡ (name, bytes) ∷ old
@@ -115,19 +119,19 @@ origin_of_refused (Some refused) texts name =
 
 -- where the file of this name comes from
 abbrev pub origin_of : Event → Text → Origin
-origin_of (Done (Start dataset stations out)) name =
+origin_of (StartKept dataset stations out) name =
     if bytes_eq out name then Started dataset stations else Was name
-origin_of (Done (Take desk out texts)) name =
+origin_of (TakeKept desk out texts) name =
     if bytes_eq out name then Took desk texts else Was name
-origin_of (Done (Merge mine theirs out)) name =
+origin_of (MergeKept mine theirs out) name =
     if bytes_eq out name then Merged mine theirs else Was name
-origin_of (Done (Withdraw desk out references)) name =
+origin_of (WithdrawKept desk out references) name =
     if bytes_eq out name then Withdrew desk references else Was name
-origin_of (Received refused desk out names receipts) name = if bytes_eq out name
+origin_of (ReceiveKept refused desk out names receipts) name = if bytes_eq out name
     then TookSome desk names receipts else origin_of_refused refused (refused_texts receipts) name
 origin_of (Copied from to) name = if bytes_eq to name then Was from else Was name
 origin_of (Came other bytes) name = if bytes_eq other name then Given bytes else Was name
-origin_of event name = Was name
+origin_of Unchanged name = Was name
 
 -- ---- what was brought
 

@@ -1,5 +1,5 @@
 -- What `withdraw` makes of a desk and prints, and which words it refuses.
-use Rattle.std.specs.Prelude.{◌≡◌, ◌⊎◌, ℕ, Bool, true, false, List, [], ◌∷◌, ◌++◌, Some, slice_get, Result, Ok, Err}
+use Rattle.std.specs.Prelude.{◌≡◌, ◌⊎◌, ℕ, Bool, true, false, List, [], ◌∷◌, ◌++◌, Some, slice_get, Ok, Err}
 use Rattle.std.specs.FinMap.{contains_key, remove}
 use Rattle.ssim_base.specs.Export.{line}
 use Rattle.ssim_text.specs.Reference.{SpellsReference}

@@ -3,9 +3,10 @@ use Rattle.std.specs.Prelude.{◌≡◌, ◌⊎◌, ℕ, List, [], ◌∷◌, co
 use Rattle.ssim_text.specs.Message.{MessageValue}
 use Rattle.ssim_text.specs.declared.reference.Reference.{Reference}
 use Rattle.ssim_text.specs.Reference.{SpellsReference}
-use Rattle.ssim_command_line.specs.Line.{Text, Start, Take, Merge, Withdraw}
+use Rattle.ssim_command_line.specs.Line.{Text}
 use Rattle.ssim_program.specs.Files.{Files, file_of}
-use Rattle.ssim_program.specs.Offices.{BeganFrom, Began, Brought, Done, History, IsSaidTo, Then}
+use Rattle.ssim_program.specs.Offices.{BeganFrom, Began, Brought, History, IsSaidTo, MergeKept}
+use Rattle.ssim_program.specs.Offices.{StartKept, TakeKept, Then, WithdrawKept}
 
 abbrev zurich : Text
 zurich = codes "zurich.desk"
@@ -18,9 +19,9 @@ london = codes "london.desk"
 abbrev three_commands : Files → Files → Files → Files → History
 three_commands before started taken merged =
     Then (Then (Then (Began before)
-    (Done (Start (codes "season.ssim") (codes "stations.txt") zurich)) started)
-    (Done (Take zurich zurich (codes "holiday.ssm" ∷ []))) taken)
-    (Done (Merge zurich london zurich)) merged
+    (StartKept (codes "season.ssim") (codes "stations.txt") zurich) started)
+    (TakeKept zurich zurich (codes "holiday.ssm" ∷ [])) taken)
+    (MergeKept zurich london zurich) merged
 
 -- To Zurich's desk was brought what the text says to it, and what London's desk file held at the
 -- beginning.
@@ -46,7 +47,7 @@ zurich_began before started taken merged dataset stations = refl
 -- After `withdraw zurich.desk zurich.desk 'SSM 15MAR27 00002 001'` what was brought to Zurich's
 -- desk is what was brought to it before, but for the message under this reference.
 withdrawn_from_zurich : (before : History) (after : Files) (reference : Reference) (message : MessageValue)
-    → Brought (Then before (Done (Withdraw zurich zurich (codes "SSM 15MAR27 00002 001" ∷ []))) after) zurich
+    → Brought (Then before (WithdrawKept zurich zurich (codes "SSM 15MAR27 00002 001" ∷ [])) after) zurich
     reference message
     ≡ (Brought before zurich reference message
     × ((SpellsReference reference (codes "SSM 15MAR27 00002 001") ⊎ ⊥) → ⊥))

@@ -4,9 +4,9 @@ use Rattle.std.proofs.Common.{inl, inr}
 use Rattle.ssim_text.specs.Message.{MessageValue}
 use Rattle.ssim_text.specs.Reference.{SpellsReference}
 use Rattle.ssim_text.specs.declared.reference.Reference.{Reference}
-use Rattle.ssim_command_line.specs.Line.{Text, Take}
+use Rattle.ssim_command_line.specs.Line.{Text}
 use Rattle.ssim_program.specs.Files.{Files, file_of}
-use Rattle.ssim_program.specs.Offices.{Began, Brought, Done, Event, IsSaidTo, Withdrew}
+use Rattle.ssim_program.specs.Offices.{Began, Brought, Event, IsSaidTo, TakeKept, Withdrew}
 use Rattle.ssim_program.specs.Turns.{AllLeaveMessage, AreAllowed, BroughtInTurn, Comes, Ends, Holds}
 use Rattle.ssim_program.specs.Turns.{Keeps, LeavesMessage, MakesFile, Reads, Step, files_after}
 use Rattle.ssim_program.specs.Turns.{holder_of, read_by}
@@ -22,7 +22,7 @@ strike = codes "strike.asm"
 
 -- command 1 is `take fdh.desk fdh.desk holiday.ssm`, command 2 is `take fdh.desk fdh.desk strike.asm`
 abbrev takes : ℕ → Event
-takes n = Done (Take desk desk ((if n == 1 then holiday else strike) ∷ []))
+takes n = TakeKept desk desk ((if n == 1 then holiday else strike) ∷ [])
 
 -- the desk file and the two texts, each of one byte here
 abbrev before : Files

@@ -1,14 +1,12 @@
 -- Each act of what was made is done, or fails.
-use Rattle.std.proofs.Common.{◌≡◌, ◌∙◌, ◌∷◌, [], Bor, Err, List, ℕ, None, Ok, Option, Result, Some, Vec, ap, ap₂, inl, inr, map, option_map, refl, rules, subst, sym, true≢false}
-use Rattle.ssim_base.specs.Timetable.{days_of}
-use Rattle.ssim_program.specs.Acts.{Act, Acts, Keep, Print}
+use Rattle.std.proofs.Common.{◌≡◌, ◌∷◌, [], Err, List, ℕ, Ok, Option, Result, inl, inr, refl, rules, subst, sym}
+use Rattle.ssim_program.specs.Acts.{Keep, Print}
 use Rattle.ssim_program.specs.Files.{Files}
 use Rattle.ssim_program.specs.World.{Does, Performs, World, world}
 use Rattle.ssim_program.specs.internal.Print.{Prints}
 use Rattle.ssim_program.specs.internal.Program.{bytes_of, keeps, will}
 use Rattle.ssim_program.specs.print.Paper.{Paper}
 use Rattle.ssim_program.specs.declared.made.Made.{Made}
-use Rattle.ssim_program.specs.declared.made.Made.TheVariants as made
 use Rattle.ssim_program.specs.declared.refusal.Refusal.{Refusal}
 use Rattle.ssim_program.proofs.Acting.{acted_print, last}
 use Rattle.ssim_program.proofs.finish.finish.Goals as goal

@@ -1,5 +1,5 @@
 -- The refused texts are kept or not, and then the desk.
-use Rattle.std.proofs.Common.{◌≡◌, ◌∙◌, ◌∷◌, [], Bor, Err, List, ℕ, Ok, Option, Result, Some, Vec, ap, ap₂, inl, inr, map, option_map, refl, rules, subst, sym, true≢false}
+use Rattle.std.proofs.Common.{◌≡◌, Err, inl, inr, refl, rules}
 use Rattle.ssim_program.specs.Acts.{Keep}
 use Rattle.ssim_program.specs.World.{world}
 use Rattle.ssim_program.specs.internal.Program.{bytes_of}

@@ -1,8 +1,8 @@
 -- Each request makes what its command does.
-use Rattle.std.proofs.Common.{◌≡◌, ◌∙◌, ◌∷◌, [], Bor, Err, List, ℕ, None, Ok, Option, Result, Some, Vec, ap, ap₂, inl, inr, map, option_map, refl, rules, subst, sym, true≢false}
+use Rattle.std.proofs.Common.{◌≡◌, Bor, Err, List, ℕ, Ok, Option, Result, Vec, map, option_map, refl, subst, sym}
 use Rattle.ssim_command_line.specs.Request.{line_of}
 use Rattle.ssim_command_line.specs.declared.command_line.Request.{Request}
-use Rattle.ssim_program.specs.Acts.{Act, prints}
+use Rattle.ssim_program.specs.Acts.{prints}
 use Rattle.ssim_program.specs.Answer.{Answer}
 use Rattle.ssim_program.specs.Answers as answer
 use Rattle.ssim_program.specs.Answers.{answers}

@@ -1,8 +1,6 @@
 -- The words name a command, which is obeyed, or they are answered.
 use Rattle.std.proofs.Common.{inl, inr, map, refl}
 use Rattle.ssim_command_line.proofs.Lines.{spells_names}
-use Rattle.ssim_command_line.specs.Request.{line_of}
-use Rattle.ssim_program.specs.World.{world}
 use Rattle.ssim_program.proofs.Replying.{devices_obeyed, devices_replied, replied, status_obeyed, status_replied}
 use Rattle.ssim_program.proofs.program.run_on.Goals as goal
 

@@ -1,6 +1,5 @@
 -- The second record of the base is the carrier record of its frame.
-use Rattle.std.proofs.Common.{◌∙◌, ◌∷◌, ◌++◌, [], List, ap, sym}
-use Rattle.ssim_records.specs.declared.record.Record.{Record}
+use Rattle.std.proofs.Common.{◌∙◌, ◌∷◌, ◌++◌, [], ap, sym}
 use Rattle.ssim_records.specs.declared.record.Record.TheVariants.{Carrier, Header, Trailer}
 use Rattle.ssim_base.specs.Export.{Frame}
 use Rattle.ssim_program.proofs.timetable_file.carrier_of.Goals as goal

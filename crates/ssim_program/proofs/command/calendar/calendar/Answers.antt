@@ -1,5 +1,5 @@
 -- The word names a flight, or not.
-use Rattle.std.proofs.Common.{◌≡◌, ◌∙◌, ◌∷◌, [], Bor, Err, List, ℕ, Ok, Option, Result, Some, Vec, ap, ap₂, inl, inr, map, option_map, refl, rules, subst, sym, true≢false}
+use Rattle.std.proofs.Common.{◌≡◌, ◌∙◌, ◌∷◌, [], Err, List, ℕ, Ok, ap, inl, inr, refl, rules, subst}
 use Rattle.ssim_base.specs.Base.{airline_of}
 use Rattle.ssim_base.specs.Timetable.{Legs}
 use Rattle.ssim_program.specs.Messages.{flights_in}

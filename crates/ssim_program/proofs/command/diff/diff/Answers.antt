@@ -1,5 +1,5 @@
 -- Both timetables are read and compared, or not.
-use Rattle.std.proofs.Common.{◌≡◌, ◌∙◌, ◌∷◌, [], Bor, Err, List, ℕ, Ok, Option, Result, Some, Vec, ap, ap₂, inl, inr, map, option_map, refl, rules, subst, sym, true≢false}
+use Rattle.std.proofs.Common.{◌≡◌, Err, ℕ, Ok, Option, Result, Vec, inl, inr, rules, subst}
 use Rattle.ssim_program.specs.Answers.{diff, differences}
 use Rattle.ssim_program.specs.Files.{Files}
 use Rattle.ssim_program.specs.Timetables.{ReadsTimetable, RefusesTimetable}

@@ -1,5 +1,5 @@
 -- The words name a flight and a date, or not.
-use Rattle.std.proofs.Common.{◌≡◌, ◌∙◌, ◌∷◌, [], Bor, Err, List, ℕ, Ok, Option, Result, Some, Vec, ap, ap₂, inl, inr, map, option_map, refl, rules, subst, sym, true≢false}
+use Rattle.std.proofs.Common.{◌≡◌, ◌∙◌, Err, List, ap₂, inl, inr, rules}
 use Rattle.ssim_base.specs.Timetable.{Legs}
 use Rattle.ssim_desk.specs.declared.date_step.DateStep.{DateStep}
 use Rattle.ssim_program.specs.print.Shown.{history_lines}

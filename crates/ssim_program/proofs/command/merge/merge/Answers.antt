@@ -1,5 +1,5 @@
 -- The second desk is refused, or the merge.
-use Rattle.std.proofs.Common.{◌≡◌, ◌∙◌, ◌∷◌, [], Bor, Err, List, ℕ, Ok, Option, Result, Some, Vec, ap, ap₂, inl, inr, map, option_map, refl, rules, subst, sym, true≢false}
+use Rattle.std.proofs.Common.{◌≡◌, ◌∙◌, Err, Option, inl, inr, rules, subst}
 use Rattle.ssim_program.specs.Desks.{ReadsDesk, RefusesDeskFile}
 use Rattle.ssim_program.specs.Files.{Files}
 use Rattle.ssim_program.proofs.command.merge.merge.Goals as goal

@@ -1,9 +1,7 @@
 -- The next flight is another airline's, or one more is the airline's.
-use Rattle.std.proofs.Common.{◌≡◌, ◌∙◌, Bool, true, false, not, Some, refl, ap, sym, subst, true≢false}
+use Rattle.std.proofs.Common.{◌≡◌, sym, subst}
 use Rattle.std.proofs.lemmas.List.{take_all}
 use Rattle.std.proofs.lemmas.List.Elements.{All-more, All-same}
-use Rattle.std.proofs.lemmas.Option.{slice_get-get_or}
-use Rattle.ssim_values.specs.declared.designator.Designator.{Designator}
 use Rattle.ssim_program.specs.Messages.{IsOf}
 use Rattle.ssim_program.proofs.NamedFlights.{equal_bytes, other_bytes}
 use Rattle.ssim_program.proofs.command.named_flights.has_other.Goals as goal

@@ -1,5 +1,5 @@
 -- One of the flights is another airline's.
-use Rattle.std.proofs.Common.{◌≡◌, ◌∙◌, ◌∷◌, [], Bor, Err, List, ℕ, Ok, Option, Result, Some, Vec, ap, ap₂, inl, inr, map, option_map, refl, rules, subst, sym, true≢false}
+use Rattle.std.proofs.Common.{inl, inr, refl, subst, sym}
 use Rattle.std.proofs.Common.{All}
 use Rattle.ssim_program.specs.Messages.{IsOf}
 use Rattle.ssim_program.proofs.command.named_flights.named_flights.Goals as goal

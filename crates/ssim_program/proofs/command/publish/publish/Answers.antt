@@ -1,10 +1,9 @@
 -- Both timetables are read, and the messages are made, or not.
-use Rattle.std.proofs.Common.{◌≡◌, ◌∙◌, ◌∷◌, [], Bor, Err, List, ℕ, Ok, Option, Result, Some, Vec, ap, ap₂, inl, inr, map, option_map, refl, rules, subst, sym, true≢false}
+use Rattle.std.proofs.Common.{◌≡◌, ◌∙◌, ◌∷◌, [], Err, List, Option, ap, inl, inr, rules, subst}
 use Rattle.ssim_command_line.specs.Line.{Text}
 use Rattle.ssim_program.specs.Acts.{Act, Keep, Print}
 use Rattle.ssim_program.specs.Files.{Files}
 use Rattle.ssim_program.specs.Timetables.{ReadsTimetable, RefusesTimetable}
-use Rattle.ssim_program.specs.print.Refusal.{refusal_of_outbox}
 use Rattle.ssim_program.proofs.command.publish.publish.Goals as goal
 
 pub returns-in_err-old-clause-answer : goal.returns-in_err-old-clause-answer

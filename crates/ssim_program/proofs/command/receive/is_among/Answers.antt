@@ -1,5 +1,5 @@
 -- The next name is the file's, or it is not.
-use Rattle.std.proofs.Common.{◌≡◌, ◌∙◌, map, ap, take}
+use Rattle.std.proofs.Common.{◌∙◌, map, ap, take}
 use Rattle.std.specs.Option.{option_map}
 use Rattle.std.proofs.lemmas.List.{take-map, take_all}
 use Rattle.std.proofs.lemmas.Option.{slice_get-get_or, slice_get-map}

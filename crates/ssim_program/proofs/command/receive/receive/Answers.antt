@@ -1,6 +1,5 @@
 -- The texts were received, and are to be printed and kept.
-use Rattle.std.proofs.Common.{◌≡◌, ◌∙◌, ◌∷◌, [], Bor, Err, List, ℕ, None, Ok, Option, Result, Some, Vec, ap, ap₂, inl, inr, map, option_map, refl, rules, subst, sym, true≢false}
-use Rattle.ssim_command_line.specs.Line.{Text}
+use Rattle.std.proofs.Common.{◌∷◌, List, ℕ, Option, ap₂, map, option_map, refl, subst}
 use Rattle.ssim_program.specs.Acts.{Act, Print}
 use Rattle.ssim_program.specs.Files.{Files}
 use Rattle.ssim_program.specs.internal.Receive.{HasReceived}

@@ -1,9 +1,8 @@
 -- What the intake holds in the end is what the desk has received.
-use Rattle.std.proofs.Common.{◌≡◌, List, Option, map, subst, sym}
+use Rattle.std.proofs.Common.{Option, map, subst, sym}
 use Rattle.ssim_held.specs.Entries.{AreRising, DeskSeen}
 use Rattle.ssim_program.specs.Files.{Files}
 use Rattle.ssim_program.specs.Receiving.{ReceivesEach}
-use Rattle.ssim_program.specs.internal.Receive.{HasReceipts}
 use Rattle.ssim_program.proofs.command.receive.received_by.Goals as goal
 
 pub returns-clause-ok : goal.returns-clause-ok

@@ -1,5 +1,5 @@
 -- The words name a flight and a date, or not.
-use Rattle.std.proofs.Common.{◌≡◌, ◌∙◌, ◌∷◌, [], Bor, Err, List, ℕ, Ok, Option, Result, Some, Vec, ap, ap₂, inl, inr, map, option_map, refl, rules, subst, sym, true≢false}
+use Rattle.std.proofs.Common.{◌≡◌, ◌∙◌, Err, ap, inl, inr, rules}
 use Rattle.ssim_base.specs.Timetable.{Legs}
 use Rattle.ssim_program.specs.print.Shown.{shown_flight}
 use Rattle.ssim_program.proofs.command.show.show_flight.Goals as goal

@@ -1,5 +1,5 @@
 -- The desk is opened, and its texts are to be taken.
-use Rattle.std.proofs.Common.{◌≡◌, ◌∙◌, ◌∷◌, [], Bor, Err, List, ℕ, Ok, Option, Result, Some, Vec, ap, ap₂, inl, inr, map, option_map, refl, rules, subst, sym, true≢false}
+use Rattle.std.proofs.Common.{Option, map, subst}
 use Rattle.ssim_command_line.specs.Line.{Text}
 use Rattle.ssim_program.specs.Answers.{take_each}
 use Rattle.ssim_program.specs.Desks.{ReadsDesk}

@@ -1,5 +1,5 @@
 -- One more text is taken and its line printed, or not; or no text is left, and the desk is kept.
-use Rattle.std.proofs.Common.{◌≡◌, ◌∙◌, ◌∷◌, [], Bor, Err, List, ℕ, Ok, Option, Result, Some, Vec, ap, ap₂, inl, inr, map, option_map, refl, rules, subst, sym, true≢false}
+use Rattle.std.proofs.Common.{◌≡◌, ◌∙◌, [], Err, List, ℕ, Ok, Option, Result, map, refl, rules, subst, sym}
 use Rattle.std.proofs.Common.{◌+◌, drop, get_or}
 use Rattle.ssim_held.specs.Entries.{AreRising, DeskSeen}
 use Rattle.ssim_command_line.specs.Line.{Text}

@@ -1,9 +1,9 @@
 -- The messages are withdrawn, or a word is no reference.
-use Rattle.std.proofs.Common.{◌≡◌, ◌∙◌, ◌∷◌, [], Bor, Err, List, ℕ, Ok, Option, Result, Some, Vec, ap, ap₂, inl, inr, map, option_map, refl, rules, subst, sym, true≢false}
+use Rattle.std.proofs.Common.{◌≡◌, ◌∷◌, [], Err, Option, ap, inl, inr, map, rules, subst, sym}
 use Rattle.ssim_held.specs.Entries.{AreRising, DeskSeen}
 use Rattle.ssim_held.specs.File.{desk_file}
 use Rattle.ssim_command_line.specs.Line.{Text}
-use Rattle.ssim_program.specs.Acts.{Act, Keep, Print}
+use Rattle.ssim_program.specs.Acts.{Keep, Print}
 use Rattle.ssim_program.specs.Desks.{ReadsDesk}
 use Rattle.ssim_program.specs.Files.{Files}
 use Rattle.ssim_program.specs.Withdrawing.{WithdrawsFrom}
