@@ -3,14 +3,15 @@
 use Rattle.std.proofs.Common.{◌≡◌, ℕ, ◌+◌, ◌-◌, ◌%◌, ◌^◌, false, List, [], ◌∷◌, ◌++◌, length}
 use Rattle.std.proofs.Common.{Option, Some, None, refl, sym, ap, subst, ◌∙◌, append_assoc, arith}
 use Rattle.std.specs.Prelude.{IfNone}
-use Rattle.ssim_records.specs.Blocks.{CountGoesOn, CountsOn, Fetches}
+use Rattle.ssim_records.specs.clauses.Blocks.{CountGoesOn, CountsOn, Fetches}
 use Rattle.ssim_records.specs.Frames.{Frames, FramesExist, others}
-use Rattle.ssim_records.specs.Reading as reading
-use Rattle.ssim_records.specs.Reading.{FetchesNext, IsAhead, Reading}
+use Rattle.ssim_records.specs.clauses.Reading as reading
+use Rattle.ssim_records.specs.clauses.Reading.{FetchesNext, IsAhead, Reading}
 use Rattle.ssim_records.specs.Device.{Reader}
 use Rattle.ssim_records.specs.declared.records.Ending as records
 use Rattle.ssim_records.proofs.Framing.{counts_none, fetches_first, fetches_on}
-use Rattle.ssim_base.specs.Reading.{AreBlocks, HaveCome}
+use Rattle.ssim_base.specs.Reading.{AreBlocks}
+use Rattle.ssim_base.specs.clauses.Reading.{HaveCome}
 use Rattle.ssim_base.specs.internal.DataSetReader.{unread}
 
 -- those before, and the others

@@ -14,7 +14,9 @@ use Rattle.ssim_base.specs.Base as base
 use Rattle.ssim_base.specs.declared.note.Note.{Note}
 use Rattle.ssim_base.specs.Base.{Done, Outcome, first_refusal, kept_all, notes_of, data_set}
 use Rattle.ssim_base.specs.Export.{Frame, all_flights, flights_records, sections, export_refusal, chapter7_records, export_bytes, result_map}
-use Rattle.ssim_base.specs.ReadBack.{IsFrame, IsTimetable, records_of, base_of, items_of, EachSpells, HasFrame, kept_frame, BytesReadBack, ExportsAreOne, IsExport}
+use Rattle.ssim_base.specs.ReadBack.{IsFrame, IsTimetable, EachSpells, HasFrame, kept_frame}
+use Rattle.ssim_base.specs.ReadBack.{BytesReadBack, ExportsAreOne, IsExport}
+use Rattle.ssim_base.specs.clauses.ReadBack.{records_of, base_of, items_of}
 use Rattle.ssim_base.proofs.ExportLaws.{BytesDetermine, ReadOnce, SameBytes}
 use Rattle.ssim_base.proofs.Whole.{exported, base-frame, reads_back, exports_again, same_export}
 use Rattle.ssim_base.proofs.Calendars.{same-days}

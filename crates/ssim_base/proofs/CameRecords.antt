@@ -3,7 +3,7 @@
 use Rattle.std.proofs.Common.{◌≡◌, ℕ, ◌+◌, ◌<◌, ◌≤◌, Bool, true, false, List, [], ◌∷◌, ◌++◌, length, refl, sym, ap, ◌∙◌, append_assoc, arith}
 use Rattle.std.specs.Prelude.{if◌then◌else◌}
 use Rattle.std.proofs.lemmas.List.{length-append}
-use Rattle.ssim_records.specs.Blocks.{Takes}
+use Rattle.ssim_records.specs.clauses.Blocks.{Takes}
 use Rattle.ssim_records.specs.Frames.{Frames, is_fill, others, trim}
 use Rattle.ssim_records.proofs.Framing.{first_frame}
 use Rattle.ssim_records.proofs.LineEnds.{trim_front}

@@ -7,7 +7,9 @@ use Rattle.ssim_records.specs.declared.record.Record.{Record}
 use Rattle.ssim_base.specs.Timetable.{Days, days_of, itinerary, on_day, same_flight}
 use Rattle.ssim_base.specs.Base.{Done, first_refusal}
 use Rattle.ssim_base.specs.Export.{Frame, chapter7, chapter7_records, export_of, pieces}
-use Rattle.ssim_base.specs.ReadBack.{AreRead, HaveSameItineraries, IsExport, IsFrame, IsTimetable, Rise, base_of, kept_frame, records_of}
+use Rattle.ssim_base.specs.ReadBack.{AreRead, HaveSameItineraries, IsExport, IsFrame, IsTimetable}
+use Rattle.ssim_base.specs.ReadBack.{Rise, kept_frame}
+use Rattle.ssim_base.specs.clauses.ReadBack.{base_of, records_of}
 
 -- An export gives the itineraries by day that were exported.
 abbrev pub GivesBack : (FlightNumber → Days) → List (List Record) → Type 0

@@ -12,8 +12,9 @@ use Rattle.ssim_records.specs.declared.record.Record.TheVariants.{Header, Carrie
 use Rattle.ssim_base.specs.Base.{airline_of, first_refusal, kept, kept_all, notes_of}
 use Rattle.ssim_base.specs.BaseSeen.{WasRead}
 use Rattle.ssim_base.specs.internal.Reading.{AreOfFrame}
-use Rattle.ssim_base.specs.Closed.{IsClosed}
-use Rattle.ssim_base.specs.Export.{Frame, frame_from}
+use Rattle.ssim_base.specs.clauses.Closed.{IsClosed}
+use Rattle.ssim_base.specs.Export.{Frame}
+use Rattle.ssim_base.specs.clauses.Export.{frame_from}
 use Rattle.ssim_base.specs.ReadBack.{CanExport, HasFrame}
 use Rattle.ssim_base.proofs.ReadingBack.{frame-is}
 use Rattle.ssim_base.proofs.Bases.{bases_export, from-ok}

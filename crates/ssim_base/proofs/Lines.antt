@@ -5,7 +5,8 @@ use Rattle.ssim_records.specs.Frames.{fill}
 use Rattle.ssim_records.specs.Record.{written, block_of, lines, numbered, AreItems, WrittenSpells}
 use Rattle.ssim_records.specs.declared.record.Record.{Record}
 use Rattle.ssim_base.specs.Export.{line, fill_count, section_bytes, export_bytes, result_map}
-use Rattle.ssim_base.specs.ReadBack.{records_of, section_items, items_of, EachSpells}
+use Rattle.ssim_base.specs.clauses.ReadBack.{records_of, section_items, items_of}
+use Rattle.ssim_base.specs.ReadBack.{EachSpells}
 
 -- ---- lines
 

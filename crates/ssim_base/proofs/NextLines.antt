@@ -3,12 +3,13 @@ use Rattle.std.proofs.Common.{◌≡◌, ◌<◌, ◌≤◌, ℕ, List, [], ◌�
 use Rattle.std.specs.Io.KnownBytes.{Consumes, IsAtEnd}
 use Rattle.std.proofs.lemmas.List.{append-nil, length-take, reverse-append, take-append-drop}
 use Rattle.std.proofs.lemmas.Grind.{flat_map-append}
-use Rattle.ssim_records.specs.InputBuffer.{Input, Uses, ahead}
+use Rattle.ssim_records.specs.clauses.InputBuffer.{Input, Uses, ahead}
 use Rattle.ssim_records.specs.Record.{written}
 use Rattle.ssim_records.specs.declared.record.Record.{Record}
 use Rattle.ssim_records.proofs.InputBuffers.{uses_skipped, uses_then}
 use Rattle.ssim_base.specs.Base.{refusal_at}
-use Rattle.ssim_base.specs.SavedBase.{BeginsNoBase, IsBaseRecords, saved}
+use Rattle.ssim_base.specs.clauses.SavedBase.{BeginsNoBase}
+use Rattle.ssim_base.specs.SavedBase.{IsBaseRecords, saved}
 use Rattle.ssim_base.specs.internal.SavedLines.{IsLine, IsLineOf}
 use Rattle.ssim_base.proofs.SavedLines.{IsLeft, few-bytes, left-more, line-first, whole-line}
 

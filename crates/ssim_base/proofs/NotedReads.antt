@@ -2,7 +2,7 @@
 use Rattle.std.proofs.Common.{List, Vec, Global, Ok, Err}
 use Rattle.ssim_records.specs.declared.record.Record.{Record}
 use Rattle.ssim_base.specs.Base.{Outcome}
-use Rattle.ssim_base.specs.Reading.{Returns}
+use Rattle.ssim_base.specs.clauses.Reading.{Returns}
 use Rattle.ssim_base.specs.internal.Reading.{ReturnsAs}
 use Rattle.ssim_base.specs.declared.fault.BaseFault.{BaseFault}
 use Rattle.ssim_base.specs.declared.fault.BaseFault.TheVariants as fault

@@ -13,7 +13,7 @@ use Rattle.ssim_base.specs.Base.{is_trailer, note_if, check_notes, notes_of}
 use Rattle.ssim_base.specs.declared.note.Note.TheVariants.{Serial}
 use Rattle.ssim_records.specs.Record.{serial_of}
 use Rattle.ssim_base.specs.Export.{Frame, tail_record, leg_records, flights_records, with_serial, numbered, sections}
-use Rattle.ssim_base.specs.ReadBack.{records_of}
+use Rattle.ssim_base.specs.clauses.ReadBack.{records_of}
 use Rattle.ssim_base.proofs.Each.{each-map}
 use Rattle.ssim_base.proofs.Parts.{own_name, each-flights}
 

@@ -7,7 +7,7 @@ use Rattle.ssim_periods.specs.Pieces.{ArePieces}
 use Rattle.ssim_periods.proofs.PieceLaw.{pieces_law}
 use Rattle.ssim_base.specs.Timetable.{Days}
 use Rattle.ssim_base.specs.Export.{same_itinerary, pieces}
-use Rattle.ssim_base.specs.ItineraryLaws.{exact_itinerary}
+use Rattle.ssim_base.specs.clauses.ItineraryLaws.{exact_itinerary}
 
 pub bytes-self : (xs : List ℕ) → bytes_eq xs xs ≡ true
 bytes-self xs = (bytes_eq-Decides xs xs).1 refl

@@ -6,16 +6,18 @@ use Rattle.std.proofs.lemmas.List.{append-nil, length-append}
 use Rattle.std.proofs.lemmas.List.Folds.{list_any-append}
 use Rattle.std.proofs.Math.Bool.{or-false}
 use Rattle.std.specs.List.{list_any}
-use Rattle.ssim_records.specs.Blocks.{CountGoesOn, Fetches, beyond}
+use Rattle.ssim_records.specs.clauses.Blocks.{CountGoesOn, Fetches, beyond}
 use Rattle.ssim_records.specs.Frames.{Frames, FramesExist, others}
-use Rattle.ssim_records.specs.Reading as reading
-use Rattle.ssim_records.specs.Reading.{GivesNextBlock, HasNumber, Reading, without_block}
+use Rattle.ssim_records.specs.clauses.Reading as reading
+use Rattle.ssim_records.specs.clauses.Reading.{GivesNextBlock, HasNumber, Reading, without_block}
 use Rattle.ssim_records.specs.declared.fault.RecordFault.{RecordFault}
 use Rattle.ssim_records.specs.declared.fault.RecordFault.TheVariants.{Short, BadType, BadColumn, ReadFault, ReaderNeverEnds}
-use Rattle.ssim_base.specs.Problems.{AreItems, AreProblems, After, HasProblems, Item, NamesLast}
+use Rattle.ssim_base.specs.Problems.{AreItems, AreProblems, After, HasProblems, Item}
+use Rattle.ssim_base.specs.clauses.Problems.{NamesLast}
 use Rattle.ssim_base.specs.Problems.{Standing, after_item, begins_as_trailer, end_problem}
 use Rattle.ssim_base.specs.Problems.{missing_in, fault_at, problem_in, problems_in, standing_after}
-use Rattle.ssim_base.specs.Reading.{AreBlocks, HaveCome, NeverEnds}
+use Rattle.ssim_base.specs.Reading.{AreBlocks}
+use Rattle.ssim_base.specs.clauses.Reading.{HaveCome, NeverEnds}
 use Rattle.ssim_base.specs.internal.Problems.{IsNew, HasStanding, Takes}
 use Rattle.ssim_base.specs.declared.fault.BaseFault.TheVariants.{Read}
 use Rattle.ssim_base.specs.declared.problems.ProblemReader.{ProblemReader}

@@ -5,7 +5,8 @@ use Rattle.ssim_records.specs.Carrier.{CarrierFields}
 use Rattle.ssim_records.specs.Header.{HeaderFields}
 use Rattle.ssim_records.specs.Trailer.{TrailerFields}
 use Rattle.ssim_base.specs.Timetable.{Days, on_day}
-use Rattle.ssim_base.specs.Export.{Frame, frame_from}
+use Rattle.ssim_base.specs.Export.{Frame}
+use Rattle.ssim_base.specs.clauses.Export.{frame_from}
 use Rattle.ssim_base.specs.ReadBack.{ReadsBackFrom}
 
 -- the header, carrier and trailer of a base are its frame's

@@ -5,10 +5,10 @@ use Rattle.std.proofs.Common.{Err, inl, inr, refl, sym, ap, subst, ◌∙◌, ap
 use Rattle.std.proofs.lemmas.List.{append-nil, reverse-append}
 use Rattle.std.proofs.lemmas.List.Elements.{All-append}
 use Rattle.std.specs.List.{All}
-use Rattle.ssim_records.specs.Blocks.{CountGoesOn, Fetches, beyond}
+use Rattle.ssim_records.specs.clauses.Blocks.{CountGoesOn, Fetches, beyond}
 use Rattle.ssim_records.specs.Frames.{Frames, FramesExist, others}
-use Rattle.ssim_records.specs.Reading as reading
-use Rattle.ssim_records.specs.Reading.{Answer, FetchesNext, Reading, GivesNext, HasNumber}
+use Rattle.ssim_records.specs.clauses.Reading as reading
+use Rattle.ssim_records.specs.clauses.Reading.{Answer, FetchesNext, Reading, GivesNext, HasNumber}
 use Rattle.ssim_records.specs.Record.{IsRecord, fault_of, serial_of}
 use Rattle.ssim_records.specs.declared.fault.RecordFault.{RecordFault}
 use Rattle.ssim_records.specs.declared.fault.RecordFault.TheVariants.{Short, BadType, BadColumn, ReadFault, ReaderNeverEnds}
@@ -17,8 +17,10 @@ use Rattle.ssim_records.proofs.Framing.{takes_all}
 use Rattle.ssim_base.specs.Base.{Ending, Done, Broken, Outcome, at_record, check_notes, data_set, first_refusal, kept, kept_all, missing, note_if, notes_of, refusal_at, unless_refused}
 use Rattle.ssim_base.specs.internal.DataSetReader.{IsSoFar, notes_at, unread}
 use Rattle.ssim_base.specs.internal.Acceptance.{HasAccepted, IsRecordRefused, AcceptsNext}
-use Rattle.ssim_base.specs.Reading.{AreGiven, Begins, HaveCome, FailsAfter, FailsAs, Gives}
-use Rattle.ssim_base.specs.Reading.{IsAfterComplete, IsReadOf, NeverEnds, Stops}
+use Rattle.ssim_base.specs.Reading.{AreGiven, Begins, Gives}
+use Rattle.ssim_base.specs.clauses.Reading.{HaveCome, FailsAfter, FailsAs}
+use Rattle.ssim_base.specs.clauses.Reading.{IsAfterComplete, NeverEnds}
+use Rattle.ssim_base.specs.Reading.{IsReadOf, Stops}
 use Rattle.ssim_base.specs.internal.Reading.{AreGivenOf, Refuses}
 use Rattle.ssim_base.specs.ReadBack.{EachSpells}
 use Rattle.ssim_base.specs.declared.fault.BaseFault.{BaseFault}

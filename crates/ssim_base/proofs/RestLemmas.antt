@@ -4,10 +4,10 @@ use Rattle.std.proofs.Common.{length, reverse, Option, Some, None, Ok, Err, inl,
 use Rattle.std.proofs.Common.{subst, ◌∙◌, append_assoc, arith}
 use Rattle.std.specs.Prelude.{IfSome}
 use Rattle.std.specs.Io.KnownBytes.{IsAtEnd}
-use Rattle.ssim_records.specs.Blocks.{CameOn, CountGoesOn, CountsOn, Fetches, StaysLeft}
+use Rattle.ssim_records.specs.clauses.Blocks.{CameOn, CountGoesOn, CountsOn, Fetches, StaysLeft}
 use Rattle.ssim_records.specs.Frames.{others}
 use Rattle.ssim_records.specs.Device.{Reader}
-use Rattle.ssim_records.specs.Reading.{Reading, HasNumber, RestFails}
+use Rattle.ssim_records.specs.clauses.Reading.{Reading, HasNumber, RestFails}
 use Rattle.ssim_records.specs.declared.fault.RecordFault.{RecordFault}
 use Rattle.ssim_records.specs.declared.fault.RecordFault.TheVariants.{Short, BadType, BadColumn}
 use Rattle.ssim_records.specs.declared.fault.RecordFault.TheVariants.{ReadFault, ReaderNeverEnds}
@@ -16,9 +16,11 @@ use Rattle.ssim_records.proofs.FrameLaws.{frames_exist}
 use Rattle.ssim_base.specs.Base.{Done, missing}
 use Rattle.ssim_base.specs.internal.Acceptance.{IsRecordRefused}
 use Rattle.ssim_base.specs.internal.DataSetReader.{HasRead}
-use Rattle.ssim_base.specs.Reading.{AreComplete, Came, HaveCome, FailsAfter, FailsAs, Gives}
-use Rattle.ssim_base.specs.Reading.{IsAfterInvalid, IsReadOf, IsRecordAfter, NamesNext, NeverEnds}
-use Rattle.ssim_base.specs.Reading.{RefusesReading, RefusesWhole, is_of_bytes}
+use Rattle.ssim_base.specs.clauses.Reading.{AreComplete, Came, HaveCome, FailsAfter, FailsAs}
+use Rattle.ssim_base.specs.Reading.{Gives}
+use Rattle.ssim_base.specs.clauses.Reading.{IsAfterInvalid, IsRecordAfter, NamesNext, NeverEnds}
+use Rattle.ssim_base.specs.Reading.{IsReadOf}
+use Rattle.ssim_base.specs.clauses.Reading.{RefusesReading, RefusesWhole, is_of_bytes}
 use Rattle.ssim_base.specs.internal.Reading.{AreGivenOf, Refuses}
 use Rattle.ssim_base.specs.declared.fault.BaseFault.{BaseFault}
 use Rattle.ssim_base.specs.declared.fault.BaseFault.TheVariants as fault

@@ -13,7 +13,8 @@ use Rattle.ssim_records.specs.Frames.{fill}
 use Rattle.ssim_records.specs.Record.{written}
 use Rattle.ssim_records.specs.declared.record.Record.{Record}
 use Rattle.ssim_base.specs.Export.{line, section_bytes}
-use Rattle.ssim_base.specs.Sinks.{Breaks, Grows, GrowsUpTo, Puts, PutsUpTo, TakesPrefix, TakesUpTo}
+use Rattle.ssim_base.specs.Sinks.{Breaks, Grows, TakesPrefix, TakesUpTo}
+use Rattle.ssim_base.specs.clauses.Sinks.{GrowsUpTo, Puts, PutsUpTo}
 
 pub nothing_after : (xs : List ℕ) → xs ++ [] ≡ xs
 nothing_after [] = refl

@@ -17,7 +17,8 @@ use Rattle.ssim_columns.specs.declared.field.end_code.EndCode.TheVariants.{End}
 use Rattle.ssim_base.specs.Timetable.{Legs, Days, same_flight, is_on, period_of, on_day, Above}
 use Rattle.ssim_base.specs.Base.{airline_of, is_trailer, overlaps, is_leg_named, refusal_at, missing, Done, at_record, first_refusal, kept}
 use Rattle.ssim_base.specs.Export.{Piece, same_itinerary, pieces, tail_record, leg_records, piece_records, pieces_records, flight_records, flights_records, flight_count, flight_at, all_flights, with_serial, numbered, sections, export_refusal}
-use Rattle.ssim_base.specs.ReadBack.{IsTimetable, records_of}
+use Rattle.ssim_base.specs.ReadBack.{IsTimetable}
+use Rattle.ssim_base.specs.clauses.ReadBack.{records_of}
 use Rattle.ssim_base.proofs.ExportLaws.{NoneRefused}
 use Rattle.ssim_base.proofs.Places.{same-self, same-turned, same-places, flight-is}
 use Rattle.ssim_base.proofs.Pieces.{bytes-self, itinerary_pieces}

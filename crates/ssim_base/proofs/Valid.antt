@@ -9,7 +9,8 @@ use Rattle.ssim_values.specs.Airline.{is_airline}
 use Rattle.ssim_values.specs.Calendar.{day_limit}
 use Rattle.ssim_values.specs.DayMask.{digits_from}
 use Rattle.ssim_values.specs.Flight.{FlightNumber, IsFlight}
-use Rattle.ssim_values.specs.Period.{DayRange, IsPeriod}
+use Rattle.ssim_values.specs.Period.{DayRange}
+use Rattle.ssim_values.specs.clauses.Period.{IsPeriod}
 use Rattle.ssim_periods.specs.Calendar.{day_count, holds, slot}
 use Rattle.ssim_periods.specs.Cover.{first_where, break_after, period_at, cover_from}
 use Rattle.ssim_periods.specs.Pieces.{held_on, alone, has_value, values_of, pieces_with}
@@ -26,7 +27,8 @@ use Rattle.ssim_base.specs.Export.{piece_records, pieces_records, flight_records
 use Rattle.ssim_base.specs.Export.{flight_count, flight_at, all_flights, fill_count, with_serial}
 use Rattle.ssim_base.specs.Export.{numbered, sections, ExportRefusal, Variations, Records}
 use Rattle.ssim_base.specs.Export.{export_refusal, export_unless_refused, chapter7_records}
-use Rattle.ssim_base.specs.ReadBack.{IsTimetable, IsWritable, AreWritable, IsWritableFrame, section_items, items_of}
+use Rattle.ssim_base.specs.ReadBack.{IsTimetable, IsWritable, AreWritable, IsWritableFrame}
+use Rattle.ssim_base.specs.clauses.ReadBack.{section_items, items_of}
 use Rattle.ssim_base.proofs.Each.{each-append, each-both}
 use Rattle.ssim_base.proofs.Places.{flight-is}
 use Rattle.ssim_base.proofs.Pieces.{itinerary_pieces}

@@ -16,7 +16,8 @@ use Rattle.ssim_base.specs.Export.{tail_record, leg_records, pieces_records, fli
 use Rattle.ssim_base.specs.Export.{flights_records, flight_count, flight_at, all_flights}
 use Rattle.ssim_base.specs.Export.{with_serial, numbered, sections, export_refusal}
 use Rattle.ssim_base.specs.Export.{export_unless_refused, chapter7_records}
-use Rattle.ssim_base.specs.ReadBack.{IsTimetable, records_of, base_of, kept_frame, HasFrame, place_of}
+use Rattle.ssim_base.specs.ReadBack.{IsTimetable, kept_frame, HasFrame, place_of}
+use Rattle.ssim_base.specs.clauses.ReadBack.{records_of, base_of}
 use Rattle.ssim_base.proofs.ExportLaws.{ExportsAgain, ReadsBack, SameExport}
 use Rattle.ssim_base.proofs.Each.{each-map}
 use Rattle.ssim_base.proofs.Places.{flight-is, flight-place, place-below}

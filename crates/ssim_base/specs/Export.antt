@@ -23,10 +23,6 @@ pub record Frame : Type 0 where
   pub carrier : CarrierFields
   pub trailer : TrailerFields
 
--- the frame with this header, carrier and trailer
-abbrev pub frame_from : HeaderFields → CarrierFields → TrailerFields → Frame
-frame_from header carrier trailer = record { header = header; carrier = carrier; trailer = trailer }
-
 -- ---- pieces
 
 -- whether two lists of segment tails are equal

@@ -1,16 +1,14 @@
 -- All problems of a data set, not only the first.
 use Rattle.std.specs.Prelude.{◌≡◌, ℕ, ◌+◌, ◌≤◌, ◌==◌, Bool, true, false, not, if◌then◌else◌, List, [], ◌∷◌, ◌++◌, length, slice_index, Option, Some, None, Result, Ok, Err}
 use Rattle.std.specs.List.{list_any}
-use Rattle.ssim_records.specs.Device.{Reader}
 use Rattle.ssim_records.specs.Frames.{Frames, others}
 use Rattle.ssim_records.specs.Record.{Spells, fault_of}
 use Rattle.ssim_records.specs.declared.fault.RecordFault.{RecordFault}
-use Rattle.ssim_records.specs.declared.fault.RecordFault.TheVariants.{Short, ReadFault, ReaderNeverEnds}
+use Rattle.ssim_records.specs.declared.fault.RecordFault.TheVariants.{Short}
 use Rattle.ssim_records.specs.declared.record.Record.{Record}
 use Rattle.ssim_records.specs.declared.record.Record.TheVariants.{Leg, Segment, Trailer}
 use Rattle.ssim_base.specs.Base.{first_of, is_continued, is_overflow, is_rate, kept, missing, refusal_at, refuse_if}
 use Rattle.ssim_base.specs.declared.fault.BaseFault.{BaseFault}
-use Rattle.ssim_base.specs.Reading.{AreBlocks, Came, FailsAs, IsAfterComplete, NeverEnds, is_of_bytes}
 use Rattle.ssim_base.specs.declared.fault.BaseFault.TheVariants.{Read, Refused}
 use Rattle.ssim_base.specs.declared.fault.BaseFault.TheVariants as fault
 use Rattle.ssim_base.specs.declared.fault.BaseRefusal.{BaseRefusal}
@@ -137,28 +135,6 @@ pub record AreProblems (bytes : List ℕ) (problems : Problems) : Type 0 where
 abbrev pub HasProblems : ℕ → Option (List ℕ) → Problems → Type 0
 HasProblems limit None problems = Unit {0}
 HasProblems limit (Some bytes) problems = (length bytes ≤ limit) × AreProblems bytes problems
-
--- The record after the complete ones within the limit has this number, if the bytes are known.
-abbrev pub IsAfterLimit : ℕ → Option (List ℕ) → ℕ → Type 0
-IsAfterLimit limit None number = Unit {0}
-IsAfterLimit limit (Some bytes) number =
-    (blocks : List (List ℕ)) × (rest : List ℕ) × AreBlocks limit bytes blocks rest
-    × (number ≡ length blocks + 1)
-
--- Which record a 13 or a 14 names if invalid records are read, too: at 13 the record after the
--- complete ones that came, at 14 the one after the complete ones within the limit.
-abbrev pub NamesLast : ℕ → Option (List ℕ) → Option (List ℕ) → BaseFault → Type 0
-NamesLast limit all left (fault.Read (ReadFault n)) = IsAfterComplete all left n
-NamesLast limit all left (fault.Read (ReaderNeverEnds n)) = IsAfterLimit limit all n
-NamesLast limit all left _ = Unit {0}
-
--- Why the problems of a data set are not read, and what the reader has left: the reader failed, more
--- bytes came than the limit, or memory ran out.
-pub record RefusesProblems (limit : ℕ) (before after : Reader) (fault : BaseFault) : Type 0 where
-  pub is_of_device : is_of_bytes fault ≡ false
-  pub failure : FailsAs before.failures after.failures fault
-  pub names : NamesLast limit before.left after.left fault
-  pub never_ends : NeverEnds limit (Came before after) fault
 
 -- Bytes have one list of problems.
 abbrev pub SameBytesSameProblems : Type 0

@@ -1,6 +1,7 @@
 -- What it means that an export reads back.
-use Rattle.std.specs.Prelude.{◌≡◌, ◌↔◌, ℕ, ◌<◌, ◌≤◌, ◌+◌, ◌-◌, ◌*◌, false, nat_eq, if◌then◌else◌, List, [], ◌∷◌, ◌++◌, map, length, replicate, Option, Some, None, Ok}
-use Rattle.std.specs.List.{flat_map, All}
+use Rattle.std.specs.Prelude.{◌≡◌, ◌↔◌, ℕ, ◌<◌, ◌≤◌, ◌+◌, ◌-◌, ◌*◌, false, nat_eq, if◌then◌else◌}
+use Rattle.std.specs.Prelude.{List, [], ◌∷◌, ◌++◌, length, Ok}
+use Rattle.std.specs.List.{All}
 use Rattle.ssim_values.specs.Flight.{FlightNumber, IsFlight}
 use Rattle.ssim_periods.specs.Calendar.{day_count}
 use Rattle.ssim_records.specs.Carrier.{IsCarrier}
@@ -14,9 +15,9 @@ use Rattle.ssim_records.specs.declared.record.Record.{Record}
 use Rattle.ssim_records.specs.declared.record.Record.TheVariants.{Header, Carrier, Trailer}
 use Rattle.ssim_columns.specs.declared.field.end_code.EndCode.TheVariants.{End}
 use Rattle.ssim_base.specs.Timetable.{LegValue, Days, itinerary, days_of, on_day, Above}
-use Rattle.ssim_base.specs.Base.{Ending, Done, kept_all, data_set}
+use Rattle.ssim_base.specs.Base.{Ending, Done, data_set}
 use Rattle.ssim_base.specs.declared.note.Note.{Note}
-use Rattle.ssim_base.specs.Export.{Frame, fill_count, chapter7}
+use Rattle.ssim_base.specs.Export.{Frame, chapter7}
 
 -- On each date the legs of a flight are ordered by rising leg sequence, from 1 to 99. No sequence
 -- is there twice.
@@ -34,14 +35,6 @@ pub record IsTimetable (days : FlightNumber → Days) : Type 0 where
 pub record IsFrame (frame : Frame) : Type 0 where
   pub airline : frame.trailer.airline ≡ frame.carrier.airline
   pub code : frame.trailer.code ≡ End
-
--- the records of an export, in the order in which they are read
-abbrev pub records_of : List (List Record) → List Record
-records_of sections = flat_map (λ s. s) sections
-
--- the records of the base that an export is read as
-abbrev pub base_of : List Record → List Record
-base_of records = kept_all [] records
 
 -- the header, carrier and trailer that a base keeps
 abbrev pub kept_frame : Frame → Frame
@@ -78,14 +71,6 @@ pub record IsWritableFrame (frame : Frame) : Type 0 where
   pub header : IsHeader frame.header
   pub carrier : IsCarrier frame.carrier
   pub trailer : IsTrailer frame.trailer
-
--- the records of an export, each as `Some`, followed by its records of fill, each as `None`
-abbrev pub section_items : List Record → List (Option Record)
-section_items records = map (λ r. Some r) records ++ replicate (fill_count (length records)) None
-
--- the records and the fill of all sections, in the order of the bytes
-abbrev pub items_of : List (List Record) → List (Option Record)
-items_of = flat_map section_items
 
 -- the numbered blocks spell the numbered records
 abbrev pub EachSpells : List (ℕ × List ℕ) → List (ℕ × Record) → Type 0
@@ -150,12 +135,6 @@ ExportsAreOne =
     (frame other : Frame) (days others : FlightNumber → Days) (bytes these : List ℕ)
     → IsExport frame days bytes → IsExport other others these
     → (bytes ≡ these) ↔ ((kept_frame frame ≡ kept_frame other) × HaveSameItineraries days others)
-
--- a timetable can be exported and read back: each day has its legs by rising sequence, with columns
--- and tails that records may have
-pub record CanReadBack (days : FlightNumber → Days) : Type 0 where
-  pub timetable : IsTimetable days
-  pub legs : AreWritable days
 
 -- ---- what a base gives
 

@@ -1,8 +1,6 @@
 -- What the records of a base are, and how they are read again once they are written.
-use Rattle.std.specs.Prelude.{◌≡◌, ◌⊎◌, ℕ, ◌-◌, ◌≤◌, List, [], ◌∷◌, ◌++◌, map, length, Option, None, Some, Ok, IsSome}
+use Rattle.std.specs.Prelude.{◌≡◌, ◌⊎◌, ℕ, ◌≤◌, List, [], ◌∷◌, ◌++◌, map, length, Ok, IsSome}
 use Rattle.std.specs.List.{All, flat_map}
-use Rattle.ssim_records.specs.Device.{Reader}
-use Rattle.ssim_records.specs.InputBuffer.{Gives, Input, Stops}
 use Rattle.ssim_records.specs.Record.{IsRecord, written}
 use Rattle.ssim_records.specs.declared.record.Record.{Record}
 use Rattle.ssim_records.specs.declared.record.Record.TheVariants.{Header, Carrier, Leg, Segment, Trailer}
@@ -11,8 +9,6 @@ use Rattle.ssim_base.specs.Export.{Frame}
 use Rattle.ssim_base.specs.ReadBack.{HasFrame}
 use Rattle.ssim_base.specs.Reading.{FailedReader, IsReadAs}
 use Rattle.ssim_base.specs.declared.note.Note.{Note}
-use Rattle.ssim_base.specs.declared.data_set.saved_lines.SavedFault.{SavedFault}
-use Rattle.ssim_base.specs.declared.data_set.saved_lines.SavedFault.TheVariants as fault
 
 -- a record without serial, check reference, rate and overflow; the end of a leg is a date
 abbrev pub IsBare : Record → Type 0
@@ -34,31 +30,6 @@ pub record IsBaseRecords (base : List Record) : Type 0 where
 -- each record as it is written, followed by LF
 abbrev pub saved : List Record → List ℕ
 saved = flat_map (λ r. written r ++ 10 ∷ [])
-
--- If the bytes are known, they do not begin with the lines of this many records of a base.
-abbrev pub BeginsNoBase : ℕ → Option (List ℕ) → Type 0
-BeginsNoBase count None = Unit {0}
-BeginsNoBase count (Some bytes) =
-    (records : List Record) (later : List ℕ) → IsBaseRecords records → length records ≡ count
-    → bytes ≡ saved records ++ later → ⊥
-
--- why bytes are not read as the lines of this many records: there are none, the reader stopped, or
--- out of memory
-abbrev pub RefusesLines : ℕ → Option (List ℕ) → SavedFault → Type 0
-RefusesLines count bytes (fault.Invalid offset) = BeginsNoBase count bytes
-RefusesLines count bytes _ = Unit {0}
-
--- an invalid line comes after the bytes that were used
-abbrev pub IsAfterUsed : Input → SavedFault → Type 0
-IsAfterUsed input (fault.Invalid offset) = offset ≡ input.came - length input.held
-IsAfterUsed input _ = Unit {0}
-
--- The reader stopped if the fault says so. Else it did not fail, and at an invalid line it gave the
--- bytes that came.
-abbrev pub StopsSaved : ℕ → Reader → Reader → ℕ → ℕ → SavedFault → Type 0
-StopsSaved limit old new came came' fault.Memory = new.failures ≡ old.failures
-StopsSaved limit old new came came' (fault.Read stop) = Stops limit old new came stop
-StopsSaved limit old new came came' (fault.Invalid offset) = Gives old new came came'
 
 -- the outcome has these records, with any notes
 abbrev pub IsOfRecords : List Record → Outcome → Type 0

@@ -1,5 +1,6 @@
 -- A table of the UTC variations of stations: how its lines are spelled, and which row counts.
-use Rattle.std.specs.Prelude.{◌≡◌, ◌⊎◌, ℕ, ◌≤◌, Bool, ◌&&◌, ◌==◌, nat_le, if◌then◌else◌, List, [], ◌∷◌, length, Option, Some, None, Result, Ok, Err}
+use Rattle.std.specs.Prelude.{◌≡◌, ◌⊎◌, ℕ, ◌≤◌, Bool, ◌&&◌, ◌==◌, nat_le, if◌then◌else◌, List, []}
+use Rattle.std.specs.Prelude.{◌∷◌, length, Option, Some, None}
 use Rattle.std.specs.Str.{bytes_eq}
 use Rattle.ssim_values.specs.Variation.{Offset, variation_of}
 use Rattle.ssim_text.specs.Bytes.{word, after_word}
@@ -55,11 +56,6 @@ IsFirstOther (line ∷ lines) n =
 abbrev pub NamesLine : List (ℕ × List ℕ) → StationFault → Type 0
 NamesLine lines Memory = Unit {0}
 NamesLine lines (Stations n) = IsFirstOther lines n
-
--- the result of reading a table: these rows, unless memory is refused
-abbrev pub GivesRows : List Row → Result (List Row) StationFault → Type 0
-GivesRows rows (Ok answer) = answer ≡ rows
-GivesRows rows (Err fault) = fault ≡ Memory
 
 -- ---- the row that counts
 

@@ -69,11 +69,6 @@ itinerary (_ ∷ later) flight day = itinerary later flight day
 abbrev pub is_among : List FlightNumber → FlightNumber → Bool
 is_among flights flight = list_any (same_flight flight) flights
 
--- the itinerary of a flight on a day if the flight is in the list; else no legs
-abbrev pub itinerary_among : List FlightNumber → List Record → FlightNumber → ℕ → Legs
-itinerary_among flights records flight day =
-    if is_among flights flight then itinerary records flight day else []
-
 -- a flight's itinerary on each day
 abbrev pub Days : Type 0
 Days = List Legs

@@ -4,9 +4,10 @@ ghost use Rattle.std.specs.Prelude.{◌≡◌, ◌↔◌, IsTrue, IfOk, IfErr};
 ghost use Rattle.std.specs.List.{All};
 ghost use Rattle.ssim_base.specs.Base.{airline_of};
 ghost use Rattle.ssim_base.specs.BaseSeen.{AreFlights, base_with};
-ghost use Rattle.ssim_base.specs.Closed.{IsClosed};
+ghost use Rattle.ssim_base.specs.clauses.Closed.{IsClosed};
 ghost use Rattle.ssim_base.specs.ReadBack.{AreInOrder, HasFrame};
-ghost use Rattle.ssim_base.specs.Reading.{IsReadOf, RefusesByRecord, Returns};
+ghost use Rattle.ssim_base.specs.Reading.{IsReadOf};
+ghost use Rattle.ssim_base.specs.clauses.Reading.{RefusesByRecord, Returns};
 ghost use Rattle.ssim_base.specs.SavedBase.{IsBaseRecords};
 ghost use Rattle.ssim_base.specs.Timetable.{days_of};
 

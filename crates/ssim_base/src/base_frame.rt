@@ -4,7 +4,8 @@ ghost use Rattle.std.specs.Prelude.{◌≡◌, List, IfErr, IfOk};
 ghost use Rattle.ssim_records.specs.declared.record.Record.{Record};
 ghost use Rattle.ssim_base.specs.Base.{airline_of};
 ghost use Rattle.ssim_base.specs.internal.Reading.{AreOfFrame};
-ghost use Rattle.ssim_base.specs.Export.{Frame, frame_from};
+ghost use Rattle.ssim_base.specs.Export.{Frame};
+ghost use Rattle.ssim_base.specs.clauses.Export.{frame_from};
 ghost use Rattle.ssim_base.specs.ReadBack.{HasFrame, IsFrame, IsWritableFrame};
 ghost use Rattle.ssim_base.specs.Resolve.{IsRefusedIn, ResolvesIn};
 
@@ -28,7 +29,7 @@ pub struct BaseFrame {
 
 impl Model for BaseFrame {
     ghost use Rattle.ssim_base.specs.Export.{Frame};
-    ghost use Rattle.ssim_base.specs.Export.{frame_from};
+    ghost use Rattle.ssim_base.specs.clauses.Export.{frame_from};
     ghost use Rattle.ssim_base.specs.ReadBack.{IsFrame, IsWritableFrame};
 
     ghost Value = { Frame };

@@ -8,7 +8,7 @@ ghost use Rattle.ssim_records.specs.Leg.{AreLegColumns, exported_leg, written_le
 ghost use Rattle.ssim_records.specs.Record.{written};
 ghost use Rattle.ssim_records.specs.Segment.{IsTail, exported_segment, written_segment};
 ghost use Rattle.ssim_base.specs.Export.{line};
-ghost use Rattle.ssim_base.specs.Sinks.{Puts, PutsUpTo};
+ghost use Rattle.ssim_base.specs.clauses.Sinks.{Puts, PutsUpTo};
 
 use ssim_records::{LegColumns, NameText, PeriodText, Record, SegmentTail, Sink, write_over};
 use std::marker::Model;

@@ -2,7 +2,8 @@
 
 ghost use Rattle.std.specs.Prelude.{◌≡◌, ◌<◌, ◌+◌, ◌-◌, ◌^◌, ◌∷◌, ◌++◌, ◌||◌, [], false, IfErr, IfOk, OnOk};
 ghost use Rattle.ssim_records.specs.declared.fault.RecordFault.{RecordFault};
-ghost use Rattle.ssim_base.specs.Problems.{HasProblems, RefusesProblems, Standing};
+ghost use Rattle.ssim_base.specs.Problems.{HasProblems, Standing};
+ghost use Rattle.ssim_base.specs.clauses.Problems.{RefusesProblems};
 ghost use Rattle.ssim_base.specs.Problems.{begins_as_trailer, missing_in, fault_at};
 ghost use Rattle.ssim_base.specs.internal.Problems.{Finds, HasStanding, IsNew, Passes, Takes};
 

@@ -3,7 +3,8 @@
 ghost use Rattle.std.specs.Prelude.{◌≡◌, ◌≤◌, ◌++◌, List, [], IfOk, IfErr, IfSome, IfNone, IsTrue, ◌↔◌, Ok, Some};
 ghost use Rattle.ssim_text.specs.Left.{lines_left, numbered};
 ghost use Rattle.ssim_text.specs.Lines.{day_in};
-ghost use Rattle.ssim_base.specs.Stations.{GivesRows, NamesLine, Row, SpellsTable, covers};
+ghost use Rattle.ssim_base.specs.clauses.Stations.{GivesRows};
+ghost use Rattle.ssim_base.specs.Stations.{NamesLine, Row, SpellsTable, covers};
 ghost use Rattle.ssim_base.specs.Stations.{variation_at, variation_in};
 ghost use Rattle.ssim_base.specs.internal.StationRows.{StopsAs, row_of, rows_of};
 

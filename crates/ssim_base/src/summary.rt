@@ -2,8 +2,8 @@
 
 ghost use Rattle.std.specs.Prelude.{◌≡◌, ℕ, List, Option, IfOk, IfErr};
 ghost use Rattle.ssim_records.specs.Device.{Reader};
-ghost use Rattle.ssim_base.specs.Reading.{RefusesReading};
-ghost use Rattle.ssim_base.specs.Summary.{IsSummary};
+ghost use Rattle.ssim_base.specs.clauses.Reading.{RefusesReading};
+ghost use Rattle.ssim_base.specs.clauses.Summary.{IsSummary};
 
 use crate::data_set::reader::{DataSetReader, read_whole};
 use crate::fault::BaseFault;

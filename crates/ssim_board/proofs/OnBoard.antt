@@ -9,9 +9,11 @@ use Rattle.ssim_periods.proofs.DayLemmas.{day_count-is}
 use Rattle.ssim_base.specs.Export.{Piece, all_flights, pieces, same_itinerary}
 use Rattle.ssim_base.specs.Timetable.{Days, Legs, on_day}
 use Rattle.ssim_base.proofs.Pieces.{itinerary_pieces}
-use Rattle.ssim_schedule.specs.Dates.{AgreeBetween}
+use Rattle.ssim_schedule.specs.clauses.Dates.{AgreeBetween}
 use Rattle.ssim_schedule.specs.FlightPieces.{Divided, divided, divided_flights, flies}
-use Rattle.ssim_board.specs.Movements.{date_movements, end_movements, first_date, flight_movements, is_there, last_date, leg_movements, movement, movements}
+use Rattle.ssim_board.specs.Movements.{date_movements, end_movements, flight_movements, is_there}
+use Rattle.ssim_board.specs.Movements.{leg_movements, movement, movements}
+use Rattle.ssim_board.specs.clauses.Movements.{first_date, last_date}
 use Rattle.ssim_board.specs.internal.PieceMovements.{all_movements, date_end, divided_movements, on_date, piece_movements}
 use Rattle.ssim_board.specs.declared.board.Board.{Board}
 use Rattle.ssim_board.specs.declared.movement.Movement.{Movement}

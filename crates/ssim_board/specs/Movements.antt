@@ -1,5 +1,5 @@
 -- The departures and arrivals of a timetable at a station on a local date.
-use Rattle.std.specs.Prelude.{◌≡◌, ◌⊎◌, ◌<◌, ℕ, ◌+◌, ◌-◌, Bool, ◌&&◌, nat_eq, nat_lt, if◌then◌else◌, List, []}
+use Rattle.std.specs.Prelude.{◌≡◌, ◌⊎◌, ◌<◌, ℕ, ◌+◌, Bool, ◌&&◌, nat_eq, if◌then◌else◌, List, []}
 use Rattle.std.specs.Prelude.{◌∷◌, ◌++◌}
 use Rattle.std.specs.List.{flat_map, range_with_len}
 use Rattle.std.specs.Str.{bytes_eq}
@@ -81,14 +81,6 @@ unfoldable pub movements : Board → (FlightNumber → Days) → List Movement
 movements board days = flat_map (flight_movements board days) all_flights
 
 -- ---- the dates of origin that can have something on a board
-
--- the first: ten days before the board's date
-abbrev pub first_date : Board → ℕ
-first_date board = board.day - 10
-
--- the last: the day after the board's date, if it is in the calendar
-abbrev pub last_date : Board → ℕ
-last_date board = if nat_lt board.day 36524 then board.day + 1 else 36524
 
 -- The law of near dates: a date of origin more than ten days before the board's date, or more than
 -- a day after it, has nothing on the board.

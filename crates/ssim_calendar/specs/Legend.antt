@@ -1,14 +1,10 @@
 -- The legend of a calendar: the number of dates and the lines of each letter.
-use Rattle.std.specs.Prelude.{Vec, ℕ, zero, suc, ◌-◌, ◌==◌, nat_lt, if◌then◌else◌, List, [], ◌∷◌}
-use Rattle.std.specs.Prelude.{◌++◌, length, map, replicate}
+use Rattle.std.specs.Prelude.{ℕ, zero, suc, ◌-◌, ◌==◌, nat_lt, if◌then◌else◌, List, [], ◌∷◌}
+use Rattle.std.specs.Prelude.{◌++◌, length, replicate}
 use Rattle.std.specs.Prelude.{slice_index_or, codes}
 use Rattle.std.specs.Fmt.{decimal}
 use Rattle.std.specs.List.{count_by, flat_map, range_with_len}
 use Rattle.ssim_calendar.specs.Letters.{letter_at}
-
--- the bytes of each text
-abbrev pub texts_of : {A : Type 0} → List (Vec ℕ A) → List (List ℕ)
-texts_of texts = map (λ text. text.items) texts
 
 -- the number of dates with a letter
 abbrev pub dates_of : List ℕ → ℕ → ℕ

@@ -5,7 +5,8 @@ ghost use Rattle.std.specs.Prelude.{[], IfOk, OnOk};
 ghost use Rattle.std.specs.Fmt.{decimal};
 ghost use Rattle.std.specs.List.{flat_map, range_with_len};
 ghost use Rattle.ssim_calendar.specs.Legend.{aligned, dates_of, entry_lines, head_of, larger};
-ghost use Rattle.ssim_calendar.specs.Legend.{legend, more_line, most_dates, text_after, texts_of};
+ghost use Rattle.ssim_calendar.specs.Legend.{legend, more_line, most_dates, text_after};
+ghost use Rattle.ssim_calendar.specs.clauses.Legend.{texts_of};
 
 use crate::letters::letter_at;
 use ssim_lines::{PrintedAt, push_blanks, push_range, written};

@@ -1,6 +1,8 @@
 -- The fields of a record by their columns: which texts each kind of field allows, and the first
 -- invalid column.
-use Rattle.std.specs.Prelude.{ℕ, zero, suc, ◌≡◌, ◌+◌, ◌-◌, ◌≤◌, ◌<◌, ◌==◌, Bool, true, not, ◌&&◌, nat_lt, nat_le, if◌then◌else◌, List, [], ◌∷◌, ◌++◌, length, take, drop, slice_range, codes, Option, Some, None, is_some, option_map}
+use Rattle.std.specs.Prelude.{ℕ, zero, suc, ◌≡◌, ◌+◌, ◌-◌, ◌==◌, Bool, not, ◌&&◌, nat_lt, nat_le}
+use Rattle.std.specs.Prelude.{if◌then◌else◌, List, [], ◌∷◌, take, drop, slice_range, codes, Option}
+use Rattle.std.specs.Prelude.{Some, None, is_some, option_map}
 use Rattle.std.specs.List.{list_all}
 use Rattle.std.specs.Str.{bytes_eq}
 use Rattle.ssim_values.specs.Day.{day_of}
@@ -27,10 +29,6 @@ columns first last bytes = slice_range bytes (first - 1) last
 abbrev pub is_carried : ℕ → Bool
 is_carried b = nat_le 32 b && not (b == 127)
 
--- whether a byte is printed: from 32 to 126
-abbrev pub is_printed : ℕ → Bool
-is_printed b = nat_le 32 b && nat_lt b 127
-
 -- ---- what is written
 
 -- the byte itself, or a blank for a byte that no record carries
@@ -42,10 +40,6 @@ abbrev pub filled : ℕ → List ℕ → List ℕ
 filled zero text = []
 filled (suc n) [] = 32 ∷ filled n []
 filled (suc n) (b ∷ text) = carried b ∷ filled n text
-
--- the bytes with a text written over them from an index on
-abbrev pub over : ℕ → List ℕ → List ℕ → List ℕ
-over at text d = take at d ++ (text ++ drop (at + length text) d)
 
 -- ---- what a field says
 
@@ -166,31 +160,3 @@ abbrev pub EachIsValid : List ℕ → List Field → Type 0
 EachIsValid bytes [] = Unit {0}
 EachIsValid bytes (f ∷ fs) =
     (fault_in f.kind (columns f.first f.last bytes) ≡ None) × EachIsValid bytes fs
-
--- ---- tables that are in order
-
--- the columns are within a record
-abbrev pub AreColumns : ℕ → ℕ → Type 0
-AreColumns first last = (0 < first) × (first ≤ last) × (last ≤ 200)
-
--- whether a field has one column or more and is within a record
-abbrev pub is_field : Field → Bool
-is_field f = nat_lt 0 f.first && nat_le f.first f.last && nat_le f.last 200
-
--- whether a field of this kind may have n columns
-abbrev pub fits_kind : Kind → ℕ → Bool
-fits_kind Number n = nat_le n 6
-fits_kind Sequence n = nat_le n 6
-fits_kind Digits n = nat_le n 6
-fits_kind Dates n = n == 14
-fits_kind Date n = n == 7
-fits_kind AirlineCode n = n == 3
-fits_kind StationCode n = n == 3
-fits_kind Time n = n == 4
-fits_kind PassengerTime n = n == 4
-fits_kind UtcVariation n = n == 5
-fits_kind _ n = true
-
--- whether all fields are within a record and as wide as their kinds allow
-abbrev pub are_fields : List Field → Bool
-are_fields fs = list_all (λ f. is_field f && fits_kind f.kind (f.last + 1 - f.first)) fs

@@ -3,5 +3,5 @@ pub mod Columns
 pub mod Leg
 pub mod LegParts
 pub mod Segment
-pub mod Heads
+pub mod clauses
 pub mod internal

@@ -13,16 +13,6 @@ use Rattle.ssim_columns.specs.Leg.{Name, name_table, SpellsName, name_texts, IsN
 abbrev pub tail_of : List ℕ → List ℕ
 tail_of bytes = concat (columns 15 27 bytes ∷ columns 29 194 bytes ∷ [])
 
--- a tail's 179 columns at their positions in a record, with blanks elsewhere
-abbrev pub spread_tail : List ℕ → List ℕ
-spread_tail d =
-    concat (replicate 14 32 ∷ slice_range d 0 13 ∷ (32 ∷ []) ∷ slice_range d 13 179 ∷ replicate 6 32
-    ∷ [])
-
--- columns first to last of a tail, counted as in its record
-abbrev pub tail_columns : ℕ → ℕ → List ℕ → List ℕ
-tail_columns first last d = columns first last (spread_tail d)
-
 -- a tail has 179 bytes, each of which is carried
 pub record IsTail (d : List ℕ) : Type 0 where
   pub len : length d ≡ 179
@@ -88,18 +78,6 @@ written_segment r = concat (segment_texts r)
 abbrev pub exported_segment : Name → ℕ → List ℕ → ℕ → SegmentFields
 exported_segment name service tail serial =
     record { name = name; service = service; tail = tail; overflow = 32; serial = serial }
-
--- a record with this text of its name
-abbrev pub segment_of_texts : List ℕ → ℕ → List ℕ → ℕ → ℕ → List ℕ
-segment_of_texts name service tail overflow serial =
-    concat (codes "4"
-    ∷ name
-    ∷ (service ∷ [])
-    ∷ slice_range tail 0 13
-    ∷ (overflow ∷ [])
-    ∷ slice_range tail 13 179
-    ∷ digits 6 serial
-    ∷ [])
 
 -- what has a spelling
 pub record IsSegment (r : SegmentFields) : Type 0 where

@@ -12,7 +12,11 @@ ghost use Rattle.ssim_values.specs.Airline.{is_airline};
 ghost use Rattle.ssim_values.specs.Flight.{is_suffix};
 ghost use Rattle.ssim_values.specs.Calendar.{day_limit};
 ghost use Rattle.ssim_columns.specs.Numbers.{is_blank};
-ghost use Rattle.ssim_columns.specs.Columns.{columns, is_carried, is_printed, is_title, end_from, passenger_time_of, utc_variation_of, time_mode_of, end_code_of, unless, dates_fault, place_of_other, fault_in, fits_kind, first_fault, are_fields, AreColumns};
+ghost use Rattle.ssim_columns.specs.Columns.{columns, is_carried, is_title, end_from};
+ghost use Rattle.ssim_columns.specs.Columns.{passenger_time_of, utc_variation_of, time_mode_of};
+ghost use Rattle.ssim_columns.specs.Columns.{end_code_of, unless, dates_fault, place_of_other};
+ghost use Rattle.ssim_columns.specs.Columns.{fault_in, first_fault};
+ghost use Rattle.ssim_columns.specs.clauses.Columns.{is_printed, fits_kind, are_fields, AreColumns};
 
 pub(crate) mod columns;
 pub(crate) mod end_code;

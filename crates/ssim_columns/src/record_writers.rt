@@ -2,8 +2,10 @@
 //! writer.
 
 ghost use Rattle.std.specs.Prelude.{◌≡◌, ◌<◌, length};
-ghost use Rattle.ssim_columns.specs.Leg.{AreLegColumns, leg_of_texts};
-ghost use Rattle.ssim_columns.specs.Segment.{IsTail, segment_of_texts};
+ghost use Rattle.ssim_columns.specs.Leg.{AreLegColumns};
+ghost use Rattle.ssim_columns.specs.clauses.Leg.{leg_of_texts};
+ghost use Rattle.ssim_columns.specs.Segment.{IsTail};
+ghost use Rattle.ssim_columns.specs.clauses.Segment.{segment_of_texts};
 
 use crate::leg::leg_columns::LegColumns;
 use crate::leg::leg_fields::{AFTER_OVERFLOW, MIDDLE, SERVICE_TYPE};

@@ -25,7 +25,8 @@ use Rattle.std.specs.Box.{box_value}
 use Rattle.clap.proofs.OnLiterals.{clap_on_literals}
 use Rattle.clap.proofs.WalkLemmas.{both, walk_stopped}
 use Rattle.ssim_command_line.specs.Line.{Command, Line, Spells, Text, line_among, values_in}
-use Rattle.ssim_command_line.specs.Usage.{IsFaultOf, IsNoCommand, Names, line_at, whole_program}
+use Rattle.ssim_command_line.specs.clauses.Usage.{IsFaultOf}
+use Rattle.ssim_command_line.specs.Usage.{IsNoCommand, Names, line_at, whole_program}
 use Rattle.ssim_command_line.specs.declared.command_line.LineFault.{LineFault}
 use Rattle.ssim_command_line.specs.declared.command_line.LineFault.TheVariants as fault
 use Rattle.ssim_command_line.proofs.PlainWords.{level_is}

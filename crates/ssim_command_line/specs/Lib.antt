@@ -1,4 +1,4 @@
 pub mod Line
-pub mod Request
 pub mod Usage
+pub mod clauses
 pub mod internal

@@ -1,16 +1,13 @@
 -- Which words are a command, and which are wrong: by what `clap` finds in them.
-use Rattle.std.specs.Prelude.{◌≡◌, Bool, true, false, List, [], Option, Some, ⊤, codes, map}
+use Rattle.std.specs.Prelude.{◌≡◌, Bool, true, false, List, [], Option, Some, codes, map}
 use Rattle.std.specs.List.{fold}
 use Rattle.clap.specs.Faults.{fault_of}
 use Rattle.clap.specs.Kinds.{IsAmong}
 use Rattle.clap.specs.Simple.{new_shape, subcommand_of}
-use Rattle.clap.specs.Values.{kind_of}
 use Rattle.clap.specs.Words.{App, Row, Rule, Shape, with_subcommand}
 use Rattle.clap.specs.declared.error.kind.ErrorKind.{ErrorKind}
 use Rattle.clap.specs.declared.error.kind.ErrorKind.TheVariants as kind
 use Rattle.ssim_command_line.specs.Line.{Line, Text, commands, line_from, values_in}
-use Rattle.ssim_command_line.specs.declared.command_line.LineFault.{LineFault}
-use Rattle.ssim_command_line.specs.declared.command_line.LineFault.TheVariants as fault
 
 -- a command with these words and no subcommand
 abbrev pub leaf : Text → List Rule → Shape
@@ -40,10 +37,6 @@ pub record Names (words : List Text) (line : Line) : Type 0 where
   pub entered : subcommand_of whole_program words ≡ Some (name, rows)
   pub read : line_at name rows ≡ Some line
 
--- the words name some command
-abbrev pub IsCommand : List Text → Type 0
-IsCommand words = (line : Line) × Names words line
-
 -- nothing is wrong with the words, but they name no command
 abbrev pub IsNoCommand : List Text → Type 0
 IsNoCommand words = (fault_of whole_program words ≡ []) × ((line : Line) → Names words line → ⊥)
@@ -58,9 +51,3 @@ is_help _ = false
 abbrev pub HasFault : List Text → Bool → Type 0
 HasFault words help =
     (k : ErrorKind) × IsAmong k (fault_of whole_program words) × (is_help k ≡ help)
-
--- the fault of the command line is one of these words
-abbrev pub IsFaultOf : List Text → LineFault → Type 0
-IsFaultOf words fault.Memory = ⊤
-IsFaultOf words (fault.Shown error) = IsAmong (kind_of error) (fault_of whole_program words)
-IsFaultOf words fault.NoCommand = IsNoCommand words

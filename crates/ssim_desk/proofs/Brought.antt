@@ -3,10 +3,10 @@ use Rattle.std.proofs.Common.{◌≡◌, ℕ, List, drop, All, sym, subst}
 use Rattle.ssim_base.specs.BaseSeen.{BaseSeen}
 use Rattle.ssim_held.specs.Held.{Agree}
 use Rattle.ssim_held.specs.Entries.{AreEntries, DeskSeen, Entry, map_of, state_of}
-use Rattle.ssim_held.specs.Ordered.{IsFirstNew, IsMerged}
+use Rattle.ssim_held.specs.clauses.Ordered.{IsFirstNew, IsMerged}
 use Rattle.ssim_held.proofs.Entries.{not_held}
 use Rattle.ssim_held.proofs.Unions.{IsHeldIn, union_entries, union_first, union_held, union_is}
-use Rattle.ssim_desk.specs.Desk.{IsReplayed}
+use Rattle.ssim_desk.specs.clauses.Desk.{IsReplayed}
 use Rattle.ssim_desk.specs.Steps.{IsUnion}
 use Rattle.ssim_desk.specs.internal.Changes.{MergeBrings, IsReplaced}
 use Rattle.ssim_desk.proofs.Changes.{replayed}

@@ -15,12 +15,12 @@ use Rattle.ssim_text.specs.Spelling.{SpellsMessage}
 use Rattle.ssim_text.specs.declared.fault.TextFault.{TextFault}
 use Rattle.ssim_text.specs.declared.fault.TextFault.TheVariants as text_fault
 use Rattle.ssim_text.specs.declared.reference.Reference.{Reference}
-use Rattle.ssim_held.specs.Fault.{message_refused, text_refused}
+use Rattle.ssim_held.specs.clauses.Fault.{message_refused, text_refused}
 use Rattle.ssim_held.specs.Held.{DeskState, Holds, Says}
 use Rattle.ssim_held.specs.Entries.{AreEntries, AreRising, DeskSeen, Entry, IsEntry, map_of, state_of}
-use Rattle.ssim_held.specs.Ordered.{Belongs}
+use Rattle.ssim_held.specs.clauses.Ordered.{Belongs}
 use Rattle.ssim_held.proofs.Entries.{map_of_with, not_held, rising_with}
-use Rattle.ssim_desk.specs.Desk.{IsReplayed}
+use Rattle.ssim_desk.specs.clauses.Desk.{IsReplayed}
 use Rattle.ssim_desk.specs.internal.Changes.{IsReplaced}
 use Rattle.ssim_desk.specs.Steps.{IsInConflict, IsKnown, IsNew, RefusesText}
 

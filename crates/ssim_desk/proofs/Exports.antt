@@ -6,8 +6,9 @@ use Rattle.ssim_base.proofs.ReadingBack.{reads_back_as}
 use Rattle.ssim_base.proofs.Whole.{same_export}
 use Rattle.ssim_base.specs.BaseSeen.{BaseSeen, base_with}
 use Rattle.ssim_base.specs.Export.{ExportRefusal, Frame, chapter7, export_bytes, result_map}
-use Rattle.ssim_schedule.specs.ExportResult.{ReadsBackBase, Refuses, RefusesBase, Writes, WritesBase}
-use Rattle.ssim_schedule.specs.Schedule.{Flown}
+use Rattle.ssim_schedule.specs.clauses.ExportResult.{ReadsBackBase, Refuses, RefusesBase, Writes}
+use Rattle.ssim_schedule.specs.clauses.ExportResult.{WritesBase}
+use Rattle.ssim_schedule.specs.clauses.Schedule.{Flown}
 use Rattle.ssim_base.specs.Stations.{Row}
 use Rattle.ssim_base.specs.Timetable.{Days, itinerary}
 use Rattle.ssim_schedule.specs.declared.export.ExportFault.{ExportFault}

@@ -7,16 +7,18 @@ use Rattle.ssim_base.proofs.Calendars.{at-each_day}
 use Rattle.ssim_base.specs.BaseSeen.{BaseSeen}
 use Rattle.ssim_base.specs.Export.{ExportRefusal, Frame, chapter7}
 use Rattle.ssim_base.specs.ReadBack.{HasFrame}
-use Rattle.ssim_schedule.specs.ExportResult.{RefusesBase, WritesBase}
-use Rattle.ssim_schedule.specs.Schedule.{Flown, days_in}
+use Rattle.ssim_schedule.specs.clauses.ExportResult.{RefusesBase, WritesBase}
+use Rattle.ssim_schedule.specs.clauses.Schedule.{Flown, days_in}
 use Rattle.ssim_schedule.specs.declared.export.ExportFault.{ExportFault}
 use Rattle.ssim_schedule.specs.declared.export.ExportFault.TheVariants.{Variations, Records, WriteFault, Memory}
 use Rattle.ssim_base.specs.Timetable.{Legs}
 use Rattle.ssim_values.specs.Flight.{FlightNumber, IsFlight}
 use Rattle.ssim_held.specs.Entries.{AreEntries, DeskSeen, Entry, IsEntry, state_of}
 use Rattle.ssim_held.proofs.Entries.{entries-map_of}
-use Rattle.ssim_desk.specs.Desk.{WritesDesk, days_of_desk, timetable_of}
-use Rattle.ssim_desk.specs.Meaning.{Exports, Finds, HasDates, Lists, Means, Timetable, found_by, left_by}
+use Rattle.ssim_desk.specs.clauses.Desk.{WritesDesk}
+use Rattle.ssim_desk.specs.Desk.{days_of_desk, timetable_of}
+use Rattle.ssim_desk.specs.Meaning.{Exports, HasDates, Lists, Means, Timetable, found_by, left_by}
+use Rattle.ssim_desk.specs.clauses.Meaning.{Finds}
 use Rattle.ssim_desk.specs.internal.Changes.{IsAfter}
 use Rattle.ssim_desk.proofs.Meanings.{has_one_meaning}
 

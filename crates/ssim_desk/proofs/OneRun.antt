@@ -18,7 +18,8 @@ use Rattle.ssim_held.specs.Held.{DeskState, HasReference, IsDesk, reference_cmp}
 use Rattle.ssim_held.specs.Entries.{AreEntries, DeskSeen, Entry, IsEntry, keyed, state_of}
 use Rattle.ssim_held.proofs.Entries.{get-map_of}
 use Rattle.ssim_held.proofs.References.{reference_apart}
-use Rattle.ssim_desk.specs.Agreement.{AnyTwoDesksAgree, DesksAgree, Run}
+use Rattle.ssim_desk.specs.Agreement.{AnyTwoDesksAgree, Run}
+use Rattle.ssim_desk.specs.clauses.Agreement.{DesksAgree}
 use Rattle.ssim_desk.specs.Steps.{IsInRange, Runs}
 use Rattle.ssim_desk.specs.declared.steps.Answer.{Answer}
 use Rattle.ssim_desk.specs.declared.steps.Step.{Step}

@@ -13,8 +13,8 @@ use Rattle.ssim_records.specs.declared.record.Record.{Record}
 use Rattle.ssim_records.specs.declared.record.Record.TheVariants.{Header, Carrier, Leg, Segment, Trailer}
 use Rattle.ssim_base.specs.BaseSeen.{BaseSeen, is_leg_of}
 use Rattle.ssim_base.proofs.Places.{same_flight-place}
-use Rattle.ssim_schedule.specs.Acts.{AddsPointsOf, divides, is_named, is_point_of}
-use Rattle.ssim_schedule.specs.DivisionPoints.{AreAtPoints, is_point}
+use Rattle.ssim_schedule.specs.clauses.Acts.{AddsPointsOf, divides, is_named, is_point_of}
+use Rattle.ssim_schedule.specs.clauses.DivisionPoints.{AreAtPoints, is_point}
 use Rattle.ssim_base.specs.ReadBack.{place_of}
 use Rattle.ssim_base.specs.Stations.{Row}
 use Rattle.ssim_base.specs.Timetable.{period_of, same_flight}
@@ -24,7 +24,8 @@ use Rattle.ssim_values.specs.Flight.{FlightNumber, IsFlight}
 use Rattle.ssim_values.specs.Period.{DayRange}
 use Rattle.ssim_held.specs.Entries.{Entry}
 use Rattle.ssim_desk.specs.internal.Changes.{AddsSubPoints}
-use Rattle.ssim_desk.specs.Desk.{AreDeskPoints, is_desk_point, is_row_point, is_sub_of, is_sub_point, point_bound, subs_of}
+use Rattle.ssim_desk.specs.clauses.Desk.{AreDeskPoints, is_desk_point, is_row_point, is_sub_of}
+use Rattle.ssim_desk.specs.clauses.Desk.{is_sub_point, point_bound, subs_of}
 
 -- ---- parts of a test
 

@@ -5,8 +5,9 @@ use Rattle.std.specs.List.{range_with_len}
 use Rattle.ssim_periods.specs.Calendar.{day_count, holds}
 use Rattle.ssim_periods.specs.Days.{each_day}
 use Rattle.ssim_base.proofs.Places.{same_flight-place}
-use Rattle.ssim_schedule.specs.Acts.{acted_on, after_on, after_sub, changed_by, finding_of}
-use Rattle.ssim_schedule.specs.Schedule.{Flown, days_in}
+use Rattle.ssim_schedule.specs.clauses.Acts.{acted_on, after_sub, changed_by}
+use Rattle.ssim_schedule.specs.Acts.{after_on, finding_of}
+use Rattle.ssim_schedule.specs.clauses.Schedule.{Flown, days_in}
 use Rattle.ssim_base.specs.Stations.{Row}
 use Rattle.ssim_base.specs.Timetable.{Days, Legs, same_flight}
 use Rattle.ssim_schedule.specs.declared.finding.Finding.{Finding}

@@ -11,7 +11,7 @@ use Rattle.ssim_base.specs.Stations.{Row}
 use Rattle.ssim_base.specs.Timetable.{itinerary, same_flight}
 use Rattle.ssim_base.specs.declared.sub_message.ResolvedSub.{ResolvedSub}
 use Rattle.ssim_schedule.specs.Acts.{after_on}
-use Rattle.ssim_schedule.specs.Dates.{itinerary_between}
+use Rattle.ssim_schedule.specs.clauses.Dates.{itinerary_between}
 use Rattle.ssim_text.specs.declared.action.Action.{Action}
 use Rattle.ssim_text.specs.declared.action.Sub.{Sub}
 use Rattle.ssim_held.specs.Entries.{Entry}

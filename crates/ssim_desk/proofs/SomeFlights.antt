@@ -11,14 +11,15 @@ use Rattle.ssim_base.proofs.Places.{same-self, same-true}
 use Rattle.ssim_schedule.specs.Acts.{after_on, finding_of}
 use Rattle.ssim_base.specs.BaseSeen.{BaseSeen}
 use Rattle.ssim_base.specs.Stations.{Row}
-use Rattle.ssim_base.specs.Timetable.{Legs, is_among, itinerary, itinerary_among, same_flight}
+use Rattle.ssim_base.specs.Timetable.{Legs, is_among, itinerary, same_flight}
+use Rattle.ssim_base.specs.clauses.Timetable.{itinerary_among}
 use Rattle.ssim_schedule.specs.declared.finding.Finding.{Finding}
 use Rattle.ssim_base.specs.declared.sub_message.ResolvedSub.{ResolvedSub}
 use Rattle.ssim_text.specs.declared.action.Action.{Action}
 use Rattle.ssim_text.specs.declared.action.Sub.{Sub}
 use Rattle.ssim_values.specs.Flight.{FlightNumber}
 use Rattle.ssim_held.specs.Entries.{Entry}
-use Rattle.ssim_desk.specs.Desk.{is_sub_of}
+use Rattle.ssim_desk.specs.clauses.Desk.{is_sub_of}
 use Rattle.ssim_desk.specs.Meaning.{Timetable, after_entries, after_entry, after_one, after_subs, entries_findings, found_by, subs_findings}
 use Rattle.ssim_desk.specs.internal.Changes.{AgreeAt, flights_of}
 use Rattle.ssim_desk.specs.Desk.{entry_lines, sub_lines}

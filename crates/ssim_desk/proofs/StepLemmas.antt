@@ -4,7 +4,9 @@ use Rattle.std.proofs.lemmas.Bool.Decides.{Decides-eqb}
 use Rattle.std.proofs.lemmas.List.{get_or-map, get_or_append_left, get_or-append_right, map-set, set-append_left, set-append_right, set-get_or}
 use Rattle.ssim_held.specs.Held.{DeskState, IsDesk, no_desk}
 use Rattle.ssim_held.specs.Entries.{DeskSeen, map_of, state_of}
-use Rattle.ssim_desk.specs.Steps.{Acts, IsIdle, LeavesIdle, Merges, MergesAt, MergesOne, Runs, Takes, TakesAt, desk_at, is_change, with_held}
+use Rattle.ssim_desk.specs.Steps.{Acts, Merges, MergesAt, MergesOne, Runs, Takes, TakesAt, desk_at}
+use Rattle.ssim_desk.specs.Steps.{with_held}
+use Rattle.ssim_desk.specs.clauses.Steps.{IsIdle, LeavesIdle, is_change}
 use Rattle.ssim_desk.specs.declared.steps.Answer.{Answer}
 use Rattle.ssim_text.specs.declared.reference.Reference.{Reference}
 use Rattle.ssim_desk.specs.declared.steps.Answer.TheVariants.{Taken, Repeated, Merged, Refused}

@@ -3,7 +3,7 @@
 use Rattle.std.proofs.Common.{◌≡◌, ◌≢◌, ◌≤◌, ◌<◌, ◌+◌, ◌-◌, ◌*◌, ◌/◌, ◌%◌, ℕ, zero, suc, List, [], ◌∷◌, ◌++◌, length, take, drop, IfSome, slice_get, refl, sym, ap, subst, ◌∙◌, arith, length-append}
 use Rattle.std.proofs.lemmas.List.{take-append-le, take_all, length-take}
 use Rattle.ssim_base.specs.BaseSeen.{BaseSeen}
-use Rattle.ssim_schedule.specs.Schedule.{Flown, cuts_in}
+use Rattle.ssim_schedule.specs.clauses.Schedule.{Flown, cuts_in}
 use Rattle.ssim_base.specs.Stations.{Row}
 use Rattle.ssim_schedule.specs.declared.finding.Finding.{Finding}
 use Rattle.ssim_values.specs.Flight.{FlightNumber, IsFlight}

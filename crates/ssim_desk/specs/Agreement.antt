@@ -84,15 +84,6 @@ AnyTwoDesksAgree =
     → BeganAlike (desk_at one.start d) (desk_at other.start e)
     → AreAgreed (desk_at one.after d) (desk_at other.after e)
 
--- any two desks of one run that began alike and that the same messages reached agree
-abbrev pub DesksAgree : List DeskState → List Step → List Answer → List DeskState → Type 0
-DesksAgree start steps answers after =
-    (d e : ℕ) → d < length start → e < length start → BeganAlike (desk_at start d) (desk_at start e)
-    → ((reference : Reference) (message : MessageValue)
-    → Reached start steps answers d reference message
-    ↔ Reached start steps answers e reference message)
-    → AreAgreed (desk_at after d) (desk_at after e)
-
 -- a desk holds the message at the start, or a step offers a text that says it
 abbrev pub IsThere : List DeskState → List Step → Reference → MessageValue → Type 0
 IsThere start steps reference message =

@@ -4,6 +4,7 @@ pub mod Merging
 pub mod Deliveries
 pub mod Agreement
 pub mod Desk
+pub mod clauses
 pub mod internal
 pub mod examples
 pub mod DateSteps

@@ -76,12 +76,6 @@ abbrev pub Means : DeskState → Timetable → Type 0
 Means desk timetable =
     (listed : List Entry) × Lists desk listed × (timetable ≡ left_by desk.base listed)
 
--- what the messages of a desk find, in order of reference: one list for each message, in the order
--- of its sub-messages
-abbrev pub Finds : DeskState → List (List Finding) → Type 0
-Finds desk findings =
-    (listed : List Entry) × Lists desk listed × (findings ≡ found_by desk.base listed)
-
 -- Every desk has a meaning.
 abbrev pub HasMeaning : Type 0
 HasMeaning = (desk : DeskState) → IsDesk desk → (timetable : Timetable) × Means desk timetable

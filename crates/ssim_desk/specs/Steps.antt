@@ -1,7 +1,7 @@
 -- What texts and merges do to desks, and what they return. Each of them may run out of memory,
 -- which changes nothing.
-use Rattle.std.specs.Prelude.{◌≡◌, ◌≢◌, ℕ, ◌<◌, ◌==◌, ◌&&◌, not, Bool, true, false, List, [], ◌∷◌, None}
-use Rattle.std.specs.Prelude.{slice_get, slice_index_or, slice_set}
+use Rattle.std.specs.Prelude.{◌≡◌, ◌≢◌, ℕ, ◌<◌, ◌==◌, Bool, true, false, List, [], ◌∷◌, None}
+use Rattle.std.specs.Prelude.{slice_index_or, slice_set}
 use Rattle.std.specs.FinMap.{get, insert}
 use Rattle.ssim_base.specs.{Resolve.IsRefusedIn, declared.resolution.ResolveFault.ResolveFault}
 use Rattle.ssim_text.specs.Decoder.{IsRefusal, NoMessage}
@@ -109,11 +109,6 @@ abbrev pub IsInRange : ℕ → Step → Type 0
 IsInRange count (Take i text) = i < count
 IsInRange count (Merge into from) = (into < count) × (from < count)
 
--- the step merges a desk with itself
-abbrev pub IsOwnMerge : Step → Type 0
-IsOwnMerge (Take i text) = ⊥
-IsOwnMerge (Merge into from) = into ≡ from
-
 -- a step takes a text to a desk
 pub record TakesAt (desks : List DeskState) (i : ℕ) (text : List ℕ) (answer : Answer)
     (after : List DeskState) : Type 0 where
@@ -144,22 +139,3 @@ Runs desks [] [] after = after ≡ desks
 Runs desks (step ∷ steps) (answer ∷ answers) after =
     (between : List DeskState) × Acts desks step answer between × Runs between steps answers after
 Runs _ _ _ _ = ⊥
-
--- whether the step may have changed the desk with this number: it took a text that was new, or it
--- was merged with another desk
-abbrev pub is_change : ℕ → Step → Answer → Bool
-is_change d (Take i text) (Taken reference) = i == d
-is_change d (Merge into from) Merged = (into == d) && not (from == d)
-is_change _ _ _ = false
-
--- no step of the run may have changed the desk
-abbrev pub IsIdle : ℕ → List Step → List Answer → Type 0
-IsIdle d (step ∷ steps) (answer ∷ answers) =
-    (is_change d step answer ≡ false) × IsIdle d steps answers
-IsIdle _ _ _ = Unit {0}
-
--- An idle desk, one that no step changed, is what it was, with the same count of messages applied
--- by its latest change.
-abbrev pub LeavesIdle : {X : Type 0} → List X → List Step → List Answer → List X → Type 0
-LeavesIdle old steps answers new =
-    (d : ℕ) → IsIdle d steps answers → slice_get new d ≡ slice_get old d

@@ -4,19 +4,22 @@ ghost use Rattle.std.specs.Prelude.{◌≡◌, ◌⊎◌, ◌++◌, ◌<◌, ◌
 ghost use Rattle.std.specs.Prelude.{length, take, drop, Ok, IfOk, IfErr, OnErr, OnOk};
 ghost use Rattle.std.specs.List.Sorted.{IsStrictlyIncreasing};
 ghost use Rattle.ssim_values.specs.Calendar.{weekday};
-ghost use Rattle.ssim_schedule.specs.ExportResult.{ReadsBackBase, RefusesBase, WritesBase};
-ghost use Rattle.ssim_schedule.specs.Schedule.{cuts_in};
-ghost use Rattle.ssim_base.specs.Sinks.{Puts};
+ghost use Rattle.ssim_schedule.specs.clauses.ExportResult.{ReadsBackBase, RefusesBase, WritesBase};
+ghost use Rattle.ssim_schedule.specs.clauses.Schedule.{cuts_in};
+ghost use Rattle.ssim_base.specs.clauses.Sinks.{Puts};
 ghost use Rattle.ssim_text.specs.declared.reference.Reference.{Reference};
 ghost use Rattle.ssim_held.specs.File.{CanBeSaved, desk_file};
-ghost use Rattle.ssim_held.specs.Opening.{Opens, RefusesOpening};
+ghost use Rattle.ssim_held.specs.clauses.Opening.{Opens, RefusesOpening};
 ghost use Rattle.ssim_held.specs.Entries.{AreEntries, AreRising, IsEntry, map_of, state_of};
-ghost use Rattle.ssim_held.specs.Ordered.{Belongs};
-ghost use Rattle.ssim_desk.specs.Desk.{AreDeskPoints, IsReplayed, WritesDesk, at_rest};
-ghost use Rattle.ssim_desk.specs.Desk.{days_of_desk, finding_lines, is_flight_named, merge_answer};
-ghost use Rattle.ssim_desk.specs.Desk.{point_bound, take_answer, timetable_of};
+ghost use Rattle.ssim_held.specs.clauses.Ordered.{Belongs};
+ghost use Rattle.ssim_desk.specs.clauses.Desk.{AreDeskPoints, IsReplayed, WritesDesk, at_rest};
+ghost use Rattle.ssim_desk.specs.Desk.{days_of_desk, finding_lines};
+ghost use Rattle.ssim_desk.specs.clauses.Desk.{is_flight_named, merge_answer};
+ghost use Rattle.ssim_desk.specs.clauses.Desk.{point_bound};
+ghost use Rattle.ssim_desk.specs.Desk.{take_answer, timetable_of};
 ghost use Rattle.ssim_desk.specs.internal.Changes.{IsReplaced};
-ghost use Rattle.ssim_desk.specs.Meaning.{Finds, Means, Timetable, found_by};
+ghost use Rattle.ssim_desk.specs.clauses.Meaning.{Finds};
+ghost use Rattle.ssim_desk.specs.Meaning.{Means, Timetable, found_by};
 ghost use Rattle.ssim_desk.specs.Steps.{Merges, Takes};
 
 use crate::finding_line::FindingLine;
@@ -54,8 +57,8 @@ pub struct Desk {
 
 impl Model for Desk {
     ghost use Rattle.std.specs.Coded.{codes};
-    ghost use Rattle.ssim_schedule.specs.Schedule.{flown_code};
-    ghost use Rattle.ssim_desk.specs.Desk.{ScheduledDesk};
+    ghost use Rattle.ssim_schedule.specs.clauses.Schedule.{flown_code};
+    ghost use Rattle.ssim_desk.specs.clauses.Desk.{ScheduledDesk};
     ghost use Rattle.ssim_desk.specs.internal.Changes.{AreSchedules};
 
     ghost Value = { ScheduledDesk };

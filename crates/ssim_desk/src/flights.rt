@@ -7,7 +7,7 @@ ghost use Rattle.ssim_periods.specs.Days.{each_day};
 ghost use Rattle.ssim_values.specs.Flight.{FlightNumber, IsFlight};
 ghost use Rattle.ssim_base.specs.Timetable.{is_among};
 ghost use Rattle.ssim_schedule.specs.FlightPieces.{divided_among};
-ghost use Rattle.ssim_schedule.specs.Schedule.{days_in};
+ghost use Rattle.ssim_schedule.specs.clauses.Schedule.{days_in};
 ghost use Rattle.ssim_desk.specs.Desk.{entry_lines};
 ghost use Rattle.ssim_desk.specs.Meaning.{Timetable, after_entries, entries_findings, found_by};
 ghost use Rattle.ssim_desk.specs.Meaning.{left_by};

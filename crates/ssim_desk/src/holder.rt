@@ -4,7 +4,8 @@ ghost use Rattle.std.specs.Prelude.{◌≡◌, Ok, OnErr};
 ghost use Rattle.ssim_text.specs.declared.reference.Reference.{Reference};
 ghost use Rattle.ssim_held.specs.Held.{IsDesk};
 ghost use Rattle.ssim_held.specs.Entries.{DeskSeen, map_of, state_of};
-ghost use Rattle.ssim_desk.specs.Desk.{merge_answer, take_answer};
+ghost use Rattle.ssim_desk.specs.clauses.Desk.{merge_answer};
+ghost use Rattle.ssim_desk.specs.Desk.{take_answer};
 ghost use Rattle.ssim_desk.specs.Steps.{Merges, Takes};
 
 use crate::desk::{Desk, Took};

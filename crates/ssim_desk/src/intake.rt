@@ -9,7 +9,7 @@ ghost use Rattle.ssim_base.specs.Resolve.{ResolvesIn};
 ghost use Rattle.ssim_text.specs.Message.{MessageValue};
 ghost use Rattle.ssim_text.specs.Spelling.{SpellsMessage};
 ghost use Rattle.ssim_held.specs.Entries.{AreEntries, AreRising, map_of, state_of};
-ghost use Rattle.ssim_held.specs.Pages.{all_of};
+ghost use Rattle.ssim_held.specs.clauses.Pages.{all_of};
 ghost use Rattle.ssim_desk.specs.Desk.{take_answer};
 ghost use Rattle.ssim_desk.specs.Steps.{Takes};
 
@@ -36,7 +36,7 @@ pub struct Intake {
 
 impl Model for Intake {
     ghost use Rattle.ssim_held.specs.Entries.{AreEntries, DeskSeen};
-    ghost use Rattle.ssim_held.specs.Pages.{all_of};
+    ghost use Rattle.ssim_held.specs.clauses.Pages.{all_of};
 
     ghost Value = { DeskSeen };
 

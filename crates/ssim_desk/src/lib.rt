@@ -21,8 +21,9 @@
 //! `ssim_held`, whose definitions these contracts cite, too. The other definitions are in `specs/`:
 //! `Meaning` (what each flight has on each date), `Steps` (what texts and merges do), `Deliveries`
 //! (which messages reach which desks), `Agreement` and `Merging` (the laws) and `Desk` (what the
-//! calls of a desk return). Those in `specs/internal/` are cited by private functions alone.
-//! Computed examples are in `specs/examples/`.
+//! calls of a desk return). Those in `specs/clauses/` are cited by contracts alone, and no law reaches
+//! them; those in `specs/internal/` are cited by private functions alone. Computed examples are in
+//! `specs/examples/`.
 #![tactic(auto)]
 
 mod date_step;

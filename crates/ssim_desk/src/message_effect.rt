@@ -3,7 +3,7 @@
 ghost use Rattle.std.specs.Prelude.{◌≡◌, ◌∷◌, [], IfOk, OnOk};
 ghost use Rattle.ssim_periods.specs.Days.{each_day};
 ghost use Rattle.ssim_schedule.specs.Acts.{finding_of};
-ghost use Rattle.ssim_schedule.specs.Schedule.{cuts_in};
+ghost use Rattle.ssim_schedule.specs.clauses.Schedule.{cuts_in};
 ghost use Rattle.ssim_values.specs.Flight.{FlightNumber, IsFlight};
 ghost use Rattle.ssim_desk.specs.internal.Changes.{AddsSubPoints, Shows};
 ghost use Rattle.ssim_desk.specs.Meaning.{Timetable, after_entries, after_entry, after_one};

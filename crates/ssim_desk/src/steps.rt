@@ -5,9 +5,11 @@ ghost use Rattle.std.specs.Prelude.{OnErr};
 ghost use Rattle.ssim_text.specs.declared.reference.Reference.{Reference};
 ghost use Rattle.ssim_held.specs.Held.{IsDesk};
 ghost use Rattle.ssim_held.specs.Entries.{map_of, state_of};
-ghost use Rattle.ssim_desk.specs.Agreement.{DesksAgree};
-ghost use Rattle.ssim_desk.specs.Steps.{Acts, IsInRange, IsOwnMerge, LeavesIdle, Merges, MergesAt};
-ghost use Rattle.ssim_desk.specs.Steps.{Runs, Takes, is_change};
+ghost use Rattle.ssim_desk.specs.clauses.Agreement.{DesksAgree};
+ghost use Rattle.ssim_desk.specs.Steps.{Acts, IsInRange, Merges, MergesAt};
+ghost use Rattle.ssim_desk.specs.clauses.Steps.{IsOwnMerge, LeavesIdle};
+ghost use Rattle.ssim_desk.specs.Steps.{Runs, Takes};
+ghost use Rattle.ssim_desk.specs.clauses.Steps.{is_change};
 
 use crate::desk::Took;
 use crate::holder::Holder;

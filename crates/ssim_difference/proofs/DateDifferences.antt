@@ -4,9 +4,9 @@ use Rattle.std.proofs.Common.{true≢false}
 use Rattle.ssim_periods.specs.Pieces.{alone}
 use Rattle.ssim_periods.proofs.PieceLaw.{alike-self}
 use Rattle.ssim_base.specs.Export.{same_itinerary}
-use Rattle.ssim_base.specs.ItineraryLaws.{exact_itinerary}
+use Rattle.ssim_base.specs.clauses.ItineraryLaws.{exact_itinerary}
 use Rattle.ssim_base.specs.Timetable.{Legs}
-use Rattle.ssim_difference.specs.DifferenceLaws.{exact_difference}
+use Rattle.ssim_difference.specs.clauses.DifferenceLaws.{exact_difference}
 use Rattle.ssim_difference.specs.Differences.{difference, no_difference, pair, same_difference}
 use Rattle.ssim_difference.specs.declared.difference.Difference.{Difference}
 

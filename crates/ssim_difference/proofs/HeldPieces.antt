@@ -8,7 +8,7 @@ use Rattle.ssim_periods.specs.Calendar.{holds}
 use Rattle.ssim_periods.specs.Pieces.{alone, held_on}
 use Rattle.ssim_periods.proofs.PieceLaw.{alone-short, held_on-append, pieces_law}
 use Rattle.ssim_base.specs.Export.{Piece, pieces, same_itinerary}
-use Rattle.ssim_base.specs.ItineraryLaws.{exact_itinerary}
+use Rattle.ssim_base.specs.clauses.ItineraryLaws.{exact_itinerary}
 use Rattle.ssim_base.specs.Timetable.{Days, Legs, on_day}
 use Rattle.ssim_difference.specs.internal.Between.{AreDisjoint, held}
 

@@ -11,7 +11,8 @@ use Rattle.std.specs.declared.cmp.Ordering.{Ordering}
 use Rattle.std.specs.declared.cmp.Ordering.TheVariants.{Less, Equal, Greater}
 use Rattle.std.proofs.lemmas.Bool.Decides.{nat_tests}
 use Rattle.std.proofs.lemmas.Cmp.{nat_list_cmp_total, tied_itself}
-use Rattle.ssim_values.specs.Flight.{FlightNumber, flight_order}
+use Rattle.ssim_values.specs.Flight.{FlightNumber}
+use Rattle.ssim_values.specs.clauses.Flight.{flight_order}
 use Rattle.ssim_base.specs.Export.{Piece, flight_at, flight_count, pieces}
 use Rattle.ssim_base.specs.ReadBack.{HaveSameItineraries, place_of}
 use Rattle.ssim_base.specs.Timetable.{Days, on_day}

@@ -8,9 +8,9 @@ use Rattle.ssim_periods.specs.Pieces.{alone, held_on, pieces_with, sort_by_first
 use Rattle.ssim_periods.proofs.DayLemmas.{day_count-is, index-each_day}
 use Rattle.ssim_periods.proofs.PieceLaw.{pieces_law}
 use Rattle.ssim_base.specs.Export.{same_itinerary}
-use Rattle.ssim_base.specs.ItineraryLaws.{exact_itinerary}
+use Rattle.ssim_base.specs.clauses.ItineraryLaws.{exact_itinerary}
 use Rattle.ssim_base.specs.Timetable.{Days, on_day}
-use Rattle.ssim_difference.specs.DifferenceLaws.{exact_difference}
+use Rattle.ssim_difference.specs.clauses.DifferenceLaws.{exact_difference}
 use Rattle.ssim_difference.specs.Differences.{PiecesHoldDifferences, difference, difference_pieces}
 use Rattle.ssim_difference.specs.Differences.{differing_days}
 use Rattle.ssim_difference.specs.Differences.{differs_on, no_difference, pair, same_difference}

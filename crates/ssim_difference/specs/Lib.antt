@@ -1,6 +1,5 @@
 pub mod Differences
 pub mod Lines
-pub mod DifferenceLaws
-pub mod DifferenceOrder
+pub mod clauses
 pub mod internal
 pub mod examples

@@ -2,9 +2,10 @@
 
 ghost use Rattle.std.specs.Prelude.{◌≡◌, IfOk};
 ghost use Rattle.ssim_difference.specs.Differences.{difference, no_difference, same_difference};
-ghost use Rattle.ssim_difference.specs.DifferenceLaws.{exact_difference};
-ghost use Rattle.ssim_difference.specs.DifferenceOrder.{difference-told_apart, difference_cmp};
-ghost use Rattle.ssim_difference.specs.DifferenceOrder.{difference_cmp_total};
+ghost use Rattle.ssim_difference.specs.clauses.DifferenceLaws.{exact_difference};
+ghost use Rattle.ssim_difference.specs.clauses.DifferenceOrder.{difference-told_apart};
+ghost use Rattle.ssim_difference.specs.clauses.DifferenceOrder.{difference_cmp};
+ghost use Rattle.ssim_difference.specs.clauses.DifferenceOrder.{difference_cmp_total};
 
 use ssim_periods::Value;
 use ssim_schedule::Itinerary;

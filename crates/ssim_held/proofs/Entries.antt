@@ -13,7 +13,7 @@ use Rattle.ssim_text.specs.Message.{MessageValue}
 use Rattle.ssim_text.specs.declared.reference.Reference.{Reference}
 use Rattle.ssim_held.specs.Held.{reference_cmp}
 use Rattle.ssim_held.specs.Entries.{AreRising, Entry, keyed, map_of}
-use Rattle.ssim_held.specs.Ordered.{Belongs}
+use Rattle.ssim_held.specs.clauses.Ordered.{Belongs}
 use Rattle.ssim_held.proofs.References.{reference_total}
 
 abbrev pub Pair : Type 0

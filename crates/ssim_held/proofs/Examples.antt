@@ -15,8 +15,8 @@ use Rattle.ssim_values.specs.Day.{day_text}
 use Rattle.ssim_held.specs.File.{after_first_line, counted, row_line, rows_part, texts_part}
 use Rattle.ssim_held.specs.Entries.{Entry}
 use Rattle.ssim_held.specs.Held.{reference_cmp}
-use Rattle.ssim_held.specs.Opening.{FailsAs, NeverEnds}
-use Rattle.ssim_held.specs.Pages.{IsGap, all_of, position, position_on}
+use Rattle.ssim_held.specs.clauses.Opening.{FailsAs, NeverEnds}
+use Rattle.ssim_held.specs.clauses.Pages.{IsGap, all_of, position, position_on}
 use Rattle.ssim_held.specs.internal.DeskFileReader.{first_line, is_number}
 use Rattle.ssim_held.specs.declared.fault.DeskFault.TheVariants.{Text, Read}
 use Rattle.ssim_held.specs.declared.desk_file_reader.version.FileVersion.TheVariants.{One, Two}

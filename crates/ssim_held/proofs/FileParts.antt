@@ -7,7 +7,8 @@ use Rattle.std.specs.Result.{IsErr}
 use Rattle.ssim_records.specs.Device.{Writer}
 use Rattle.ssim_records.specs.declared.record.Record.{Record}
 use Rattle.ssim_base.specs.BaseSeen.{base_with}
-use Rattle.ssim_base.specs.Sinks.{Breaks, GrowsUpTo, PutsUpTo}
+use Rattle.ssim_base.specs.Sinks.{Breaks}
+use Rattle.ssim_base.specs.clauses.Sinks.{GrowsUpTo, PutsUpTo}
 use Rattle.ssim_base.specs.Stations.{Row}
 use Rattle.ssim_base.proofs.Each.{all_done, all_more, item}
 use Rattle.ssim_base.proofs.SinkLemmas.{next_fails, next_put, none_put, nothing_after}

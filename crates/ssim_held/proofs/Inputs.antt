@@ -2,7 +2,7 @@
 use Rattle.std.proofs.Common.{◌≡◌, ℕ, ◌<◌, ◌≤◌, List, [], ◌∷◌, ◌++◌, get_or, length, take, drop, Option, Some, None, IfSome, Result, Ok, Err, IfErr, IfOk, refl, sym, ap, subst, ◌∙◌, append_assoc, arith}
 use Rattle.std.specs.Io.KnownBytes.{Consumes, IsAtEnd}
 use Rattle.std.proofs.lemmas.List.{append-nil, length-take, take-append-drop}
-use Rattle.ssim_records.specs.InputBuffer.{Input, Uses, ahead}
+use Rattle.ssim_records.specs.clauses.InputBuffer.{Input, Uses, ahead}
 use Rattle.ssim_records.proofs.InputBuffers.{uses_skipped, uses_then}
 use Rattle.ssim_base.specs.declared.data_set.saved_lines.SavedFault.{SavedFault}
 use Rattle.ssim_base.specs.declared.data_set.saved_lines.SavedFault.TheVariants as fault

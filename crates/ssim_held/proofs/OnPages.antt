@@ -13,8 +13,8 @@ use Rattle.std.proofs.lemmas.List.Elements.{All-append, All-cons, All-drop, All-
 use Rattle.ssim_text.specs.declared.reference.Reference.{Reference}
 use Rattle.ssim_held.specs.Held.{reference_cmp}
 use Rattle.ssim_held.specs.Entries.{AreRising, Entry, keyed, map_of}
-use Rattle.ssim_held.specs.Ordered.{Belongs}
-use Rattle.ssim_held.specs.Pages.{IsFilled, IsHeldOn, all_of, position, position_on}
+use Rattle.ssim_held.specs.clauses.Ordered.{Belongs}
+use Rattle.ssim_held.specs.clauses.Pages.{IsFilled, IsHeldOn, all_of, position, position_on}
 use Rattle.ssim_held.specs.declared.pages.Place.{Place}
 use Rattle.ssim_held.proofs.Entries.{T-from_true, and_left, and_right, both, flips, held_at, true-from_T}
 use Rattle.ssim_held.proofs.References.{reference_apart, reference_total}

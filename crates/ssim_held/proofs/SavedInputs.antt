@@ -2,7 +2,7 @@
 -- lines.
 use Rattle.std.proofs.Common.{◌≡◌, ℕ, ◌<◌, ◌^◌, List, ◌++◌, length, codes, Option, Some, None, IfSome, refl, sym, ap, subst, ◌∙◌}
 use Rattle.std.proofs.lemmas.List.{append_cancel_left}
-use Rattle.ssim_records.specs.InputBuffer.{Input, Uses, ahead}
+use Rattle.ssim_records.specs.clauses.InputBuffer.{Input, Uses, ahead}
 use Rattle.ssim_records.specs.declared.record.Record.{Record}
 use Rattle.ssim_records.proofs.InputBuffers.{uses_then}
 use Rattle.ssim_base.specs.SavedBase.{IsBaseRecords, saved}

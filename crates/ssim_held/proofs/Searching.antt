@@ -8,7 +8,7 @@ use Rattle.std.proofs.lemmas.Bool.{cases_lt}
 use Rattle.ssim_text.specs.declared.reference.Reference.{Reference}
 use Rattle.ssim_held.specs.Held.{reference_cmp}
 use Rattle.ssim_held.specs.Entries.{AreRising, Entry, keyed, map_of}
-use Rattle.ssim_held.specs.Ordered.{Belongs}
+use Rattle.ssim_held.specs.clauses.Ordered.{Belongs}
 use Rattle.ssim_held.proofs.Entries.{T-from_true, and_left, and_right, below_later, flips, held_at}
 use Rattle.ssim_held.proofs.References.{reference_apart, reference_total}
 

@@ -11,7 +11,7 @@ use Rattle.ssim_text.specs.Message.{MessageValue}
 use Rattle.ssim_text.specs.declared.reference.Reference.{Reference}
 use Rattle.ssim_held.specs.Held.{reference_cmp}
 use Rattle.ssim_held.specs.Entries.{Entry, keyed}
-use Rattle.ssim_held.specs.Ordered.{IsLesser, IsMerged}
+use Rattle.ssim_held.specs.clauses.Ordered.{IsLesser, IsMerged}
 use Rattle.ssim_held.proofs.Entries.{and_left, and_right, both, find_below, flips, less-from_T, less-to_T}
 use Rattle.ssim_held.proofs.MapLemmas.{or_else}
 use Rattle.ssim_held.proofs.References.{reference_apart, reference_total}

@@ -13,7 +13,7 @@ use Rattle.ssim_text.specs.Message.{MessageValue}
 use Rattle.ssim_text.specs.declared.reference.Reference.{Reference}
 use Rattle.ssim_held.specs.Held.{Agree, DifferAt, IsLeastConflict, reference_cmp, union}
 use Rattle.ssim_held.specs.Entries.{AreEntries, AreRising, Entry, IsEntry, keyed, map_of}
-use Rattle.ssim_held.specs.Ordered.{IsFirstNew, IsFound, IsLesser, IsMerged}
+use Rattle.ssim_held.specs.clauses.Ordered.{IsFirstNew, IsFound, IsLesser, IsMerged}
 use Rattle.ssim_held.specs.declared.lookup.LookUp.{LookUp}
 use Rattle.ssim_held.specs.declared.lookup.LookUp.TheVariants.{Absent, Same, Other}
 use Rattle.ssim_held.proofs.Entries.{T-from_true, and_left, flips, get-map_of, held_at, not_held, self_equal, true-from_T}

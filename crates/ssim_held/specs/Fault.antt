@@ -1,5 +1,4 @@
--- The numbers and names of the faults of a desk, what they name, and which of them another fault
--- becomes.
+-- The numbers and names of the faults of a desk, and what they name.
 use Rattle.std.specs.Prelude.{ℕ, List, codes}
 use Rattle.ssim_records.specs.Record.{fault_name, fault_number}
 use Rattle.ssim_base.specs.Fault.{record_fault_place, resolve_fault_name, resolve_fault_place}
@@ -7,17 +6,10 @@ use Rattle.ssim_base.specs.Fault.{text_fault_place}
 use Rattle.ssim_base.specs.Resolve.{resolve_fault_number}
 use Rattle.ssim_base.specs.declared.place.Place.{Place}
 use Rattle.ssim_base.specs.declared.place.Place.TheVariants.{Nowhere, Message, Offset}
-use Rattle.ssim_base.specs.declared.resolution.ResolveFault.{ResolveFault}
 use Rattle.ssim_text.specs.Fault.{text_fault_name, text_fault_number}
-use Rattle.ssim_text.specs.declared.fault.TextFault.{TextFault}
 use Rattle.ssim_held.specs.declared.fault.DeskFault.{DeskFault}
 use Rattle.ssim_held.specs.declared.fault.DeskFault.TheVariants.{Memory, Text, Resolve, Conflict, OtherBase}
 use Rattle.ssim_held.specs.declared.fault.DeskFault.TheVariants.{Read, File}
-use Rattle.ssim_base.specs.declared.resolution.ResolveFault.TheVariants as resolve_fault
-use Rattle.ssim_text.specs.declared.fault.TextFault.TheVariants as text_fault
-use Rattle.ssim_records.specs.declared.fault.RecordFault.TheVariants as record_fault
-use Rattle.ssim_records.specs.declared.input_buffer.InputFault.{InputFault}
-use Rattle.ssim_records.specs.declared.input_buffer.InputFault.TheVariants as input_fault
 
 -- the number by which a fault is known
 abbrev pub desk_fault_number : DeskFault → ℕ
@@ -48,18 +40,3 @@ desk_fault_place (Conflict reference) = Message reference
 desk_fault_place OtherBase = Nowhere
 desk_fault_place (Read fault) = record_fault_place fault
 desk_fault_place (File offset) = Offset offset
-
--- a text that is no message, or for which there is no memory
-abbrev pub text_refused : TextFault → DeskFault
-text_refused text_fault.Memory = Memory
-text_refused fault = Text fault
-
--- a message that does not resolve, or for which there is no memory
-abbrev pub message_refused : ResolveFault → DeskFault
-message_refused resolve_fault.Memory = Memory
-message_refused fault = Resolve fault
-
--- the fault of a desk file whose reader stopped, with record number 0
-abbrev pub input_stopped : InputFault → DeskFault
-input_stopped input_fault.ReadFault = Read (record_fault.ReadFault 0)
-input_stopped input_fault.ReaderNeverEnds = Read (record_fault.ReaderNeverEnds 0)

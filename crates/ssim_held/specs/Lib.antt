@@ -1,8 +1,6 @@
 pub mod Fault
 pub mod Held
 pub mod Entries
-pub mod Ordered
-pub mod Pages
 pub mod File
-pub mod Opening
+pub mod clauses
 pub mod internal

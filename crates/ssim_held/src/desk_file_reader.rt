@@ -3,12 +3,12 @@
 ghost use Rattle.std.specs.Prelude.{◌≡◌, ◌≢◌, ◌++◌, ◌≤◌, ◌<◌, ◌^◌, [], ℕ, List, All, length};
 ghost use Rattle.std.specs.Prelude.{IfErr, IfOk, IfSome, OnErr, OnOk};
 ghost use Rattle.std.specs.Io.KnownBytes.{IsAtEnd};
-ghost use Rattle.ssim_records.specs.InputBuffer.{Gives, Uses, ahead};
+ghost use Rattle.ssim_records.specs.clauses.InputBuffer.{Gives, Uses, ahead};
 ghost use Rattle.ssim_base.specs.BaseSeen.{BaseSeen, base_with};
-ghost use Rattle.ssim_base.specs.SavedBase.{StopsSaved};
+ghost use Rattle.ssim_base.specs.clauses.SavedBase.{StopsSaved};
 ghost use Rattle.ssim_base.specs.Stations.{Row};
 ghost use Rattle.ssim_held.specs.File.{IsDeskFile, IsRow, end_line, rows_part, texts_part};
-ghost use Rattle.ssim_held.specs.Opening.{Opens, RefusesOpening};
+ghost use Rattle.ssim_held.specs.clauses.Opening.{Opens, RefusesOpening};
 ghost use Rattle.ssim_held.specs.internal.DeskFileReader.{AreHeld, IfInvalid};
 ghost use Rattle.ssim_held.specs.Entries.{Entry};
 

@@ -3,7 +3,7 @@
 ghost use Rattle.std.specs.Prelude.{◌≡◌, ◌++◌, ◌∷◌, [], decimal, OnOk};
 ghost use Rattle.std.specs.List.{All};
 ghost use Rattle.ssim_base.specs.BaseSeen.{base_with};
-ghost use Rattle.ssim_base.specs.Sinks.{Puts, PutsUpTo};
+ghost use Rattle.ssim_base.specs.clauses.Sinks.{Puts, PutsUpTo};
 ghost use Rattle.ssim_held.specs.File.{IsRow, IsSpelled, desk_file, records_part, rows_part};
 ghost use Rattle.ssim_held.specs.File.{text_element, texts_part};
 ghost use Rattle.ssim_held.specs.internal.DeskFileWriter.{base_part};

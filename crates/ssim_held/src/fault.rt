@@ -94,7 +94,7 @@ impl From<ssim_values::Memory> for DeskFault {
 }
 
 impl From<InputFault> for DeskFault {
-    ghost use Rattle.ssim_held.specs.Fault.{input_stopped};
+    ghost use Rattle.ssim_held.specs.clauses.Fault.{input_stopped};
 
     ghost from_gives = { λ fault e. e ≡ input_stopped fault };
 
@@ -129,7 +129,7 @@ impl<T: Drop> From<AllocFailed<T>> for DeskFault {
 }
 
 impl From<TextFault> for DeskFault {
-    ghost use Rattle.ssim_held.specs.Fault.{text_refused};
+    ghost use Rattle.ssim_held.specs.clauses.Fault.{text_refused};
 
     ghost from_gives = { λ fault e. e ≡ text_refused fault };
 
@@ -142,7 +142,7 @@ impl From<TextFault> for DeskFault {
 }
 
 impl From<ResolveFault> for DeskFault {
-    ghost use Rattle.ssim_held.specs.Fault.{message_refused};
+    ghost use Rattle.ssim_held.specs.clauses.Fault.{message_refused};
 
     ghost from_gives = { λ fault e. e ≡ message_refused fault };
 

@@ -13,9 +13,10 @@
 //! - [`laws`]: no two desks have one file, and what was opened is saved as it was.
 //!
 //! The definitions that the contracts cite are in `specs/`: `Held` (messages by reference, and what
-//! a desk is), `Entries` (the entries of a list), `Ordered` (the position of a message in a list,
-//! and two lists merged), `Pages` (the position of a message on pages), `File` and `Opening` (the
-//! bytes of a desk file, and what reading them returns), and `Fault`. Computed examples are in `proofs/Examples`.
+//! a desk is), `Entries` (the entries of a list), `File` (the bytes of a desk file) and `Fault`. No
+//! law reaches those in `specs/clauses/`: `Ordered` (the position of a message in a list, and two
+//! lists merged), `Pages` (the position of a message on pages), `Opening` (what reading the bytes of
+//! a desk file returns), and a part of `Fault`. Computed examples are in `proofs/Examples`.
 //!
 //! The promise: the list says exactly which message is held under which reference; and bytes are
 //! the file of at most one base and one list, which are read from them, and written as them again.

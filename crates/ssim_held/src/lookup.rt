@@ -3,7 +3,7 @@
 ghost use Rattle.std.specs.Prelude.{◌≡◌, ◌<◌, ◌-◌, slice_get, Some, IfErr, IfOk};
 ghost use Rattle.ssim_held.specs.Held.{reference_cmp};
 ghost use Rattle.ssim_held.specs.Entries.{AreRising, Entry};
-ghost use Rattle.ssim_held.specs.Ordered.{Belongs, IsFound};
+ghost use Rattle.ssim_held.specs.clauses.Ordered.{Belongs, IsFound};
 
 use crate::held::Held;
 use ssim_text::{Message, Reference};

@@ -6,9 +6,10 @@ ghost use Rattle.std.specs.List.{insert, remove};
 ghost use Rattle.std.specs.declared.cmp.Ordering.TheVariants.{Greater};
 ghost use Rattle.ssim_held.specs.Held.{reference_cmp};
 ghost use Rattle.ssim_held.specs.Entries.{AreRising, Entry};
-ghost use Rattle.ssim_held.specs.Ordered.{Belongs};
-ghost use Rattle.ssim_held.specs.Pages.{BelongsOn, IsFilled, IsGap, IsHeldOn, all_of, position};
-ghost use Rattle.ssim_held.specs.Pages.{position_on};
+ghost use Rattle.ssim_held.specs.clauses.Ordered.{Belongs};
+ghost use Rattle.ssim_held.specs.clauses.Pages.{BelongsOn, IsFilled, IsGap, IsHeldOn, all_of};
+ghost use Rattle.ssim_held.specs.clauses.Pages.{position};
+ghost use Rattle.ssim_held.specs.clauses.Pages.{position_on};
 
 use crate::held::Held;
 use crate::lookup::{compare, search};
@@ -34,7 +35,7 @@ pub struct Pages {
 impl Model for Pages {
     ghost use Rattle.std.specs.Prelude.{List, All};
     ghost use Rattle.ssim_held.specs.Entries.{Entry};
-    ghost use Rattle.ssim_held.specs.Pages.{IsFilled};
+    ghost use Rattle.ssim_held.specs.clauses.Pages.{IsFilled};
 
     ghost Value = { List (List Entry) };
 

@@ -4,7 +4,7 @@ ghost use Rattle.std.specs.Prelude.{◌≡◌, [], All, IsSome, IfOk, IfSome, If
 ghost use Rattle.std.specs.FinMap.{get};
 ghost use Rattle.ssim_held.specs.Entries.{AreRising, map_of};
 ghost use Rattle.ssim_held.specs.Held.{Agree, IsLeastConflict};
-ghost use Rattle.ssim_held.specs.Ordered.{IsFirstNew, IsMerged, IsNext};
+ghost use Rattle.ssim_held.specs.clauses.Ordered.{IsFirstNew, IsMerged, IsNext};
 
 use crate::held::Held;
 use crate::lookup::{LookUp, look_up};

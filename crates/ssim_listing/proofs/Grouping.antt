@@ -8,7 +8,7 @@ use Rattle.std.proofs.lemmas.Grind.{flat_map-append}
 use Rattle.std.proofs.lemmas.List.Folds.{find-append, list_any-append}
 use Rattle.std.proofs.lemmas.Slice.Eq.{bytes_eq-Decides}
 use Rattle.ssim_base.specs.Export.{Piece, line, same_leg}
-use Rattle.ssim_base.specs.ItineraryLaws.{exact_itinerary}
+use Rattle.ssim_base.specs.clauses.ItineraryLaws.{exact_itinerary}
 use Rattle.ssim_base.specs.Timetable.{LegValue, Legs}
 use Rattle.ssim_listing.specs.LegText.{leg_text}
 use Rattle.ssim_listing.specs.Lines.{legs_of, period_text, piece_lines}

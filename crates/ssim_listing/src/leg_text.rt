@@ -1,7 +1,7 @@
 //! A leg as one line.
 
 ghost use Rattle.std.specs.Prelude.{◌≡◌, ◌++◌, ◌<◌, ◌∷◌, IfOk, IsTrue, OnOk};
-ghost use Rattle.ssim_records.specs.Leg.{is_own};
+ghost use Rattle.ssim_records.specs.clauses.Leg.{is_own};
 ghost use Rattle.ssim_values.specs.Characters.{two_digits};
 ghost use Rattle.ssim_listing.specs.LegText.{columns_text, dotted, leg_text, shown};
 

@@ -1,7 +1,7 @@
 //! The flights of a timetable as CSV.
 
 ghost use Rattle.std.specs.Prelude.{◌≡◌, ◌++◌, ◌+◌, ◌∷◌, [], ℕ, List, IfOk, IsTrue, OnOk};
-ghost use Rattle.ssim_records.specs.Leg.{is_own};
+ghost use Rattle.ssim_records.specs.clauses.Leg.{is_own};
 ghost use Rattle.ssim_listing.specs.Lines.{flight_name};
 ghost use Rattle.ssim_listing.specs.Rows.{csv_listing, date_rows, dated_csv_listing, header};
 ghost use Rattle.ssim_listing.specs.Rows.{leg_row, piece_rows, row, time_field};

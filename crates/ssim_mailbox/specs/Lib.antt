@@ -3,6 +3,6 @@ pub mod Addresses
 pub mod Roles
 pub mod FreeTexts
 pub mod Texts
+pub mod clauses
 pub mod examples
-pub mod Mail
 pub mod internal

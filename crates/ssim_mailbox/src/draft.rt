@@ -4,7 +4,7 @@ ghost use Rattle.std.specs.Prelude.{option_map, true};
 ghost use Rattle.ssim_mailbox.specs.declared.free_text.FreeText.TheVariants.{Ahead};
 ghost use Rattle.ssim_mailbox.specs.FreeTexts.{free_after};
 ghost use Rattle.ssim_mailbox.specs.Lines.{MailLine};
-ghost use Rattle.ssim_mailbox.specs.Mail.{mail_of};
+ghost use Rattle.ssim_mailbox.specs.clauses.Mail.{mail_of};
 ghost use Rattle.ssim_mailbox.specs.Texts.{is_empty, text_from, trimmed, with_line};
 ghost use Rattle.ssim_mailbox.specs.internal.Lines.{line_of};
 ghost use Rattle.ssim_mailbox.specs.internal.Texts.{IsDraft, ends_by, number_from, texts_with};

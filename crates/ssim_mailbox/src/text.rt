@@ -2,7 +2,7 @@
 ghost use Rattle.std.specs.Prelude.{◌≡◌, [], ◌++◌, IfOk, None, Ok, option_map};
 ghost use Rattle.std.specs.Option.{option_to_list};
 ghost use Rattle.ssim_mailbox.specs.Texts.{texts_in};
-ghost use Rattle.ssim_mailbox.specs.Mail.{mail_of};
+ghost use Rattle.ssim_mailbox.specs.clauses.Mail.{mail_of};
 ghost use Rattle.ssim_mailbox.specs.internal.Texts.{AreRolesOf, texts_left};
 
 use crate::draft::Draft;

@@ -17,7 +17,7 @@ use Rattle.ssim_values.specs.Flight.{four_digits, number_text, suffix_text}
 use Rattle.ssim_values.specs.declared.designator.Designator.{Designator}
 use Rattle.ssim_values.specs.declared.time_mode.TimeMode.{TimeMode}
 use Rattle.ssim_values.specs.declared.time_mode.TimeMode.TheVariants.{Local, Utc}
-use Rattle.ssim_text.specs.Bounds.{IsCreatorBounded}
+use Rattle.ssim_text.specs.clauses.Bounds.{IsCreatorBounded}
 use Rattle.ssim_text.specs.Canonical.{creator_text, five_digits, group_code_text, originator_parts}
 use Rattle.ssim_text.specs.Canonical.{period_text, reference_text, three_digits, written}
 use Rattle.ssim_text.specs.Grammar.{AreDates, KindPart, ModePart, OriginatorPart, Part}
@@ -43,7 +43,7 @@ use Rattle.ssim_text.proofs.ReadsBack.{action_again, all_left, all_right}
 use Rattle.ssim_text.proofs.Words.{only_if}
 use Rattle.ssim_text.proofs.Writing.{written_both}
 use Rattle.ssim_outbox.specs.DatedSub.{dated}
-use Rattle.ssim_outbox.specs.Messages.{IsAlone}
+use Rattle.ssim_outbox.specs.clauses.Messages.{IsAlone}
 use Rattle.ssim_publish.specs.Reach.{IsSaid}
 use Rattle.ssim_outbox.specs.internal.Texts.{heading_parts}
 use Rattle.ssim_outbox.proofs.FullPeriods.{full_again, full_period, full_short}

@@ -17,7 +17,7 @@ use Rattle.ssim_text.specs.declared.reference.Reference.{Reference}
 use Rattle.ssim_text.proofs.Place.{one_message}
 use Rattle.ssim_held.specs.Entries.{AreEntries, DeskSeen, Entry, IsEntry, map_of, state_of}
 use Rattle.ssim_held.specs.Held.{DeskState, HeldMessages, Says, reference_cmp}
-use Rattle.ssim_held.specs.Ordered.{Belongs}
+use Rattle.ssim_held.specs.clauses.Ordered.{Belongs}
 use Rattle.ssim_held.specs.declared.fault.DeskFault.{DeskFault}
 use Rattle.ssim_held.specs.declared.fault.DeskFault.TheVariants as fault
 use Rattle.ssim_held.proofs.Entries.{flips, map_of_with, not_held}

@@ -14,7 +14,8 @@ use Rattle.ssim_text.specs.Spelling.{SpellsMessage}
 use Rattle.ssim_text.specs.declared.action.Sub.{Sub}
 use Rattle.ssim_text.proofs.Writing.{written_both}
 use Rattle.ssim_values.specs.DayMonth.{month_day_text}
-use Rattle.ssim_outbox.specs.Messages.{IsAlone, IsFirst, IsFull, headed}
+use Rattle.ssim_outbox.specs.clauses.Messages.{IsAlone}
+use Rattle.ssim_outbox.specs.Messages.{IsFirst, IsFull, headed}
 use Rattle.ssim_outbox.specs.internal.Texts.{IsFullText, heading_parts}
 use Rattle.ssim_outbox.proofs.TextLines.{in_two, one_more}
 use Rattle.ssim_outbox.proofs.Together.{together}

@@ -32,8 +32,9 @@ use Rattle.ssim_publish.specs.Reach.{IsSaid}
 use Rattle.ssim_publish.specs.declared.planned_sub.PlannedSub.{PlannedSub}
 use Rattle.ssim_outbox.specs.Delivery.{AreDelivered, CanDeliver, entries_of}
 use Rattle.ssim_outbox.specs.MailFile.{mail_file}
-use Rattle.ssim_outbox.specs.Fault.{not_sent}
-use Rattle.ssim_outbox.specs.Messages.{RefusesSubs, Send}
+use Rattle.ssim_outbox.specs.clauses.Fault.{not_sent}
+use Rattle.ssim_outbox.specs.clauses.Messages.{RefusesSubs}
+use Rattle.ssim_outbox.specs.Messages.{Send}
 use Rattle.ssim_outbox.specs.declared.send_fault.SendFault.{SendFault}
 use Rattle.ssim_outbox.specs.declared.send_fault.SendFault.TheVariants as send_fault
 use Rattle.ssim_outbox.specs.Publication.{AreLines, IsPlan, LackReferences, Publishes, RefusesPublication}

@@ -7,7 +7,8 @@ use Rattle.std.specs.Prelude.{◌==◌, nat_lt}
 use Rattle.std.specs.List.{AllByRecursion}
 use Rattle.std.specs.Str.{bytes_eq}
 use Rattle.ssim_values.specs.Station.{is_station}
-use Rattle.ssim_text.specs.Bounds.{AreNewLegsBounded, IsActionBounded, IsEquipmentBounded, IsSegmentBounded}
+use Rattle.ssim_text.specs.clauses.Bounds.{AreNewLegsBounded, IsActionBounded, IsEquipmentBounded}
+use Rattle.ssim_text.specs.clauses.Bounds.{IsSegmentBounded}
 use Rattle.ssim_text.specs.Bytes.{◌>>=◌, after_word, word}
 use Rattle.ssim_text.specs.Canonical.{leg_end_text, part_text, short_digits, written}
 use Rattle.ssim_text.specs.Grammar.{EquipmentPart, IsBody, IsNewLegs, IsSub, LegPart, Part, SegmentPart}

@@ -6,7 +6,8 @@ use Rattle.ssim_text.specs.Canonical.{canonical}
 use Rattle.ssim_text.specs.Message.{MessageValue}
 use Rattle.ssim_text.specs.declared.action.Sub.{Sub}
 use Rattle.ssim_text.proofs.BoundsLemmas.{spelled_reference_bounded}
-use Rattle.ssim_outbox.specs.Messages.{IsAlone, IsFirst, Send}
+use Rattle.ssim_outbox.specs.clauses.Messages.{IsAlone}
+use Rattle.ssim_outbox.specs.Messages.{IsFirst, Send}
 use Rattle.ssim_outbox.specs.internal.Texts.{AreSent}
 use Rattle.ssim_outbox.proofs.OneFirst.{one_first, within}
 

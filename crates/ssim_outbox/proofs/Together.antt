@@ -19,7 +19,8 @@ use Rattle.ssim_text.proofs.LinesKept.{IsLine, ReadsAgain, written_left, written
 use Rattle.ssim_text.proofs.ReadsBack.{all_both, all_left, all_right, canonical_has, divider_again}
 use Rattle.ssim_text.proofs.ReadsBack.{kind_again, mode_again, spelled_again}
 use Rattle.ssim_text.proofs.Runs.{false_true}
-use Rattle.ssim_outbox.specs.Messages.{IsAlone, IsText, headed}
+use Rattle.ssim_outbox.specs.clauses.Messages.{IsAlone}
+use Rattle.ssim_outbox.specs.Messages.{IsText, headed}
 use Rattle.ssim_outbox.specs.internal.Texts.{heading_parts}
 use Rattle.ssim_outbox.proofs.OtherGroup.{other_group}
 

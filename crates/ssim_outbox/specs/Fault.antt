@@ -4,8 +4,6 @@ use Rattle.ssim_base.specs.declared.place.Place.{Place}
 use Rattle.ssim_base.specs.declared.place.Place.TheVariants.{Message, Nowhere, SubMessage}
 use Rattle.ssim_outbox.specs.declared.fault.OutboxFault.{OutboxFault}
 use Rattle.ssim_outbox.specs.declared.fault.OutboxFault.TheVariants as fault
-use Rattle.ssim_outbox.specs.declared.send_fault.SendFault.{SendFault}
-use Rattle.ssim_outbox.specs.declared.send_fault.SendFault.TheVariants as send
 
 -- the number by which a fault is known
 abbrev pub outbox_fault_number : OutboxFault → ℕ
@@ -36,8 +34,3 @@ outbox_fault_place fault.Reference = Nowhere
 outbox_fault_place fault.Date = SubMessage 0
 outbox_fault_place (fault.Order reference) = Message reference
 outbox_fault_place fault.References = Nowhere
-
--- the fault where sub-messages are not sent
-abbrev pub not_sent : SendFault → OutboxFault
-not_sent send.Memory = fault.Memory
-not_sent send.References = fault.References

@@ -3,6 +3,7 @@ pub mod DatedSub
 pub mod SendLaws
 pub mod Order
 pub mod Fault
+pub mod clauses
 pub mod examples
 pub mod internal
 pub mod Delivery

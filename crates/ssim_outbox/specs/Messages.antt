@@ -4,8 +4,6 @@ use Rattle.ssim_text.specs.Canonical.{canonical}
 use Rattle.ssim_text.specs.Message.{MessageValue, with_sub}
 use Rattle.ssim_text.specs.Spelling.{SpellsMessage}
 use Rattle.ssim_text.specs.declared.action.Sub.{Sub}
-use Rattle.ssim_outbox.specs.declared.send_fault.SendFault.{SendFault}
-use Rattle.ssim_outbox.specs.declared.send_fault.SendFault.TheVariants.{Memory, References}
 
 -- the message with this heading, this group serial and these sub-messages, and no free text
 abbrev pub headed : MessageValue → ℕ → List Sub → MessageValue
@@ -21,10 +19,6 @@ headed heading group subs = record {
 -- a text can have the message: its canonical text spells it
 abbrev pub IsText : MessageValue → Type 0
 IsText m = SpellsMessage m (canonical m)
-
--- a text under this heading can have the sub-message, by itself
-abbrev pub IsAlone : MessageValue → Sub → Type 0
-IsAlone heading sub = IsText (headed heading heading.reference.group (sub ∷ []))
 
 -- The message takes none of the sub-messages that are left: there are none, or it has 250, or with
 -- the first of them its canonical text would have more than 65,536 bytes.
@@ -47,10 +41,3 @@ abbrev pub Send : MessageValue → ℕ → List Sub → List MessageValue → Ty
 Send heading group subs [] = subs ≡ []
 Send heading group subs (m ∷ messages) =
     IsFirst heading group subs m × Send heading (group + 1) (drop (length m.subs) subs) messages
-
--- why no messages are returned: memory ran out, or no messages send the sub-messages, since the
--- group serial would pass 99999
-abbrev pub RefusesSubs : MessageValue → List Sub → SendFault → Type 0
-RefusesSubs heading subs Memory = Unit {0}
-RefusesSubs heading subs References =
-    (messages : List MessageValue) → Send heading heading.reference.group subs messages → ⊥

@@ -95,7 +95,7 @@ impl From<ssim_values::Memory> for OutboxFault {
 }
 
 impl From<SendFault> for OutboxFault {
-    ghost use Rattle.ssim_outbox.specs.Fault.{not_sent};
+    ghost use Rattle.ssim_outbox.specs.clauses.Fault.{not_sent};
 
     ghost from_gives = { λ fault e. e ≡ not_sent fault };
 

@@ -5,7 +5,8 @@ ghost use Rattle.std.specs.List.{AllByRecursion};
 ghost use Rattle.ssim_text.specs.Canonical.{canonical, written};
 ghost use Rattle.ssim_text.specs.Grammar.{Divider, sub_parts};
 ghost use Rattle.ssim_text.specs.Message.{MessageValue};
-ghost use Rattle.ssim_outbox.specs.Messages.{IsAlone, IsFirst, RefusesSubs, Send, headed};
+ghost use Rattle.ssim_outbox.specs.clauses.Messages.{IsAlone, RefusesSubs};
+ghost use Rattle.ssim_outbox.specs.Messages.{IsFirst, Send, headed};
 ghost use Rattle.ssim_outbox.specs.internal.Texts.{IsFullText};
 
 use crate::heading_lines::heading_lines;

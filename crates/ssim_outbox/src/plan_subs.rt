@@ -7,7 +7,7 @@ ghost use Rattle.ssim_records.specs.Carrier.{CarrierFields};
 ghost use Rattle.ssim_text.specs.declared.kind.Kind.TheVariants.{Ssm};
 ghost use Rattle.ssim_values.specs.Flight.{IsFlight};
 ghost use Rattle.ssim_publish.specs.Reach.{IsSaid};
-ghost use Rattle.ssim_outbox.specs.Messages.{IsAlone};
+ghost use Rattle.ssim_outbox.specs.clauses.Messages.{IsAlone};
 ghost use Rattle.ssim_outbox.specs.Publication.{dates_of_plan, subs_of_plan};
 ghost use Rattle.ssim_outbox.specs.internal.Addressed.{HasPlan};
 

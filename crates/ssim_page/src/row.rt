@@ -2,7 +2,7 @@
 
 ghost use Rattle.std.specs.Prelude.{◌≡◌, ◌++◌, IsTrue, OnOk};
 ghost use Rattle.std.specs.List.{flat_map};
-ghost use Rattle.ssim_records.specs.Leg.{is_own};
+ghost use Rattle.ssim_records.specs.clauses.Leg.{is_own};
 ghost use Rattle.ssim_page.specs.Html.{cell};
 ghost use Rattle.ssim_page.specs.Page.{aircraft_line, day_box, end_text, later_text};
 ghost use Rattle.ssim_page.specs.Page.{period_cells, route_line, route_text, row};

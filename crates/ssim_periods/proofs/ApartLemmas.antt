@@ -6,10 +6,12 @@ use Rattle.std.proofs.lemmas.Bool.Decides.{nat_tests}
 use Rattle.std.proofs.lemmas.List.{take_more, drop_more}
 use Rattle.std.proofs.lemmas.List.Elements.{All-contains}
 use Rattle.ssim_values.specs.Calendar.{weekday}
-use Rattle.ssim_values.specs.Period.{DayRange, Holds}
+use Rattle.ssim_values.specs.Period.{DayRange}
+use Rattle.ssim_values.specs.clauses.Period.{Holds}
 use Rattle.ssim_periods.specs.internal.Apart.{empty_week, value_in, AreDivided, AreApart}
 use Rattle.ssim_periods.specs.Calendar.{holds, slot}
-use Rattle.ssim_periods.specs.Days.{AddsOnly, each_day, changed_on}
+use Rattle.ssim_periods.specs.clauses.Days.{AddsOnly}
+use Rattle.ssim_periods.specs.Days.{each_day, changed_on}
 use Rattle.ssim_periods.specs.Pieces.{held_on}
 use Rattle.ssim_periods.specs.internal.Rows.{value_on, AreRows}
 use Rattle.ssim_periods.specs.internal.Splits.{with_cut}

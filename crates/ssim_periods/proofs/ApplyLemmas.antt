@@ -1,7 +1,8 @@
 -- What the new cuts and rows say of each day.
 use Rattle.std.proofs.Common.{◌≡◌, ℕ, zero, suc, ◌+◌, ◌-◌, ◌<◌, ◌≤◌, Bool, true, false, if◌then◌else◌, nat_lt, nat_le, nat_eq, List, [], ◌∷◌, length, slice_index_or, Option, Some, None, is_none, IfSome, unwrap_or, refl, ap, subst, ◌∙◌, sym, arith, ◌⊎◌, inl, inr, add-one}
 use Rattle.std.specs.List.{All, Contains}
-use Rattle.ssim_periods.specs.Days.{AddsOnly, each_day, changed_on}
+use Rattle.ssim_periods.specs.clauses.Days.{AddsOnly}
+use Rattle.ssim_periods.specs.Days.{each_day, changed_on}
 use Rattle.ssim_periods.proofs.DayLemmas.{each_day-same, changed_on-each_day}
 use Rattle.std.proofs.lemmas.Bool.Decides.{nat_tests}
 use Rattle.std.proofs.lemmas.List.Elements.{All-cons}

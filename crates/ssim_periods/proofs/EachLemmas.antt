@@ -6,7 +6,8 @@ use Rattle.std.proofs.lemmas.List.{append-nil, drop_more, take_more}
 use Rattle.std.proofs.lemmas.List.Elements.{All-cons, Contains-append_cases, Contains-append_left, Contains-append_right}
 use Rattle.ssim_values.specs.Period.{DayRange}
 use Rattle.ssim_periods.specs.Calendar.{holds}
-use Rattle.ssim_periods.specs.Days.{AddsOnly, changed_by_each, changed_on, each_day, ends_of}
+use Rattle.ssim_periods.specs.clauses.Days.{AddsOnly, changed_by_each, ends_of}
+use Rattle.ssim_periods.specs.Days.{changed_on, each_day}
 use Rattle.ssim_periods.specs.Pieces.{held_on}
 use Rattle.ssim_periods.specs.internal.Apart.{value_in, AreCutsOf, AreDivided, AreOutcomes}
 use Rattle.ssim_periods.specs.internal.Parts.{with_outcome}

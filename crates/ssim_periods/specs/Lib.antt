@@ -3,5 +3,6 @@ pub mod Days
 pub mod Cover
 pub mod Pieces
 pub mod CommonDays
+pub mod clauses
 pub mod examples
 pub mod internal

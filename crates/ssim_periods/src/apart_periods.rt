@@ -7,7 +7,8 @@ ghost use Rattle.std.specs.List.Sorted.{IsStrictlyIncreasing};
 ghost use Rattle.ssim_values.specs.Calendar.{weekday};
 ghost use Rattle.ssim_periods.specs.internal.Apart.{empty_week, list_seen, AreApart, AreDivided};
 ghost use Rattle.ssim_periods.specs.Calendar.{day_count, holds};
-ghost use Rattle.ssim_periods.specs.Days.{each_day, changed_by_each, changed_on, counts_on, ends_of, AddsOnly};
+ghost use Rattle.ssim_periods.specs.Days.{each_day, changed_on, counts_on};
+ghost use Rattle.ssim_periods.specs.clauses.Days.{changed_by_each, ends_of, AddsOnly};
 ghost use Rattle.ssim_periods.specs.Pieces.{pieces_of, held_on};
 
 pub(crate) mod entries;
@@ -57,7 +58,7 @@ pub(crate) struct ApartPeriods<V: Value> {
 impl<V: Value> Model for ApartPeriods<V> {
     ghost use Rattle.std.specs.Prelude.{◌≡◌};
     ghost use Rattle.ssim_periods.specs.internal.Apart.{empty_week, list_seen, AreApart};
-    ghost use Rattle.ssim_periods.specs.Days.{Seen};
+    ghost use Rattle.ssim_periods.specs.clauses.Days.{Seen};
 
     ghost Value = { Seen V };
 

@@ -3,7 +3,8 @@ ghost use Rattle.std.specs.List.{All, Contains};
 ghost use Rattle.std.specs.List.Sorted.{IsStrictlyIncreasing};
 ghost use Rattle.ssim_values.specs.Calendar.{weekday};
 ghost use Rattle.ssim_periods.specs.Calendar.{holds};
-ghost use Rattle.ssim_periods.specs.Days.{each_day, changed_by_each, changed_on, counts_on, ends_of, AddsOnly};
+ghost use Rattle.ssim_periods.specs.Days.{each_day, changed_on, counts_on};
+ghost use Rattle.ssim_periods.specs.clauses.Days.{changed_by_each, ends_of, AddsOnly};
 
 pub(crate) mod pieces;
 
@@ -31,7 +32,7 @@ pub(crate) enum Form<V: Value> {
 }
 
 impl<V: Value> Model for Periods<V> {
-    ghost use Rattle.ssim_periods.specs.Days.{Seen};
+    ghost use Rattle.ssim_periods.specs.clauses.Days.{Seen};
     ghost use Rattle.ssim_periods.specs.internal.Forms.{seen};
 
     ghost Value = { Seen V };

@@ -3,7 +3,8 @@ ghost use Rattle.std.specs.List.{All, Contains};
 ghost use Rattle.std.specs.List.Sorted.{IsStrictlyIncreasing};
 ghost use Rattle.ssim_values.specs.Calendar.{weekday};
 ghost use Rattle.ssim_periods.specs.Calendar.{holds};
-ghost use Rattle.ssim_periods.specs.Days.{each_day, changed_on, counts_on, AddsOnly};
+ghost use Rattle.ssim_periods.specs.Days.{each_day, changed_on, counts_on};
+ghost use Rattle.ssim_periods.specs.clauses.Days.{AddsOnly};
 ghost use Rattle.ssim_periods.specs.internal.Rows.{value_on, AreRows};
 
 pub(crate) mod count;
@@ -36,7 +37,8 @@ pub(crate) struct RangeRows<V: Value> {
 }
 
 impl<V: Value> Model for RangeRows<V> {
-    ghost use Rattle.ssim_periods.specs.Days.{Seen, each_day};
+    ghost use Rattle.ssim_periods.specs.clauses.Days.{Seen};
+    ghost use Rattle.ssim_periods.specs.Days.{each_day};
     ghost use Rattle.ssim_periods.specs.internal.Rows.{value_on, AreRows};
 
     ghost Value = { Seen V };

@@ -8,8 +8,9 @@ use Rattle.ssim_records.specs.Trailer.{TrailerFields}
 use Rattle.ssim_records.specs.declared.record.Record.{Record}
 use Rattle.ssim_records.specs.declared.record.Record.TheVariants.{Header, Carrier, Trailer}
 use Rattle.ssim_base.specs.Base.{Outcome}
-use Rattle.ssim_base.specs.Export.{ExportRefusal, Frame, chapter7, frame_from}
-use Rattle.ssim_schedule.specs.ExportResult.{ReadsBackBase}
+use Rattle.ssim_base.specs.Export.{ExportRefusal, Frame, chapter7}
+use Rattle.ssim_base.specs.clauses.Export.{frame_from}
+use Rattle.ssim_schedule.specs.clauses.ExportResult.{ReadsBackBase}
 use Rattle.ssim_base.specs.ReadBack.{HasFrame, ReadsBackFrom, kept_frame}
 use Rattle.ssim_base.specs.Reading.{FailedReader, IsReadAs, IsReadBack, IsReadOf}
 use Rattle.ssim_base.specs.Timetable.{Days, days_of}

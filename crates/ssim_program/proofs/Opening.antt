@@ -4,7 +4,7 @@ use Rattle.ssim_records.specs.declared.fault.RecordFault.{RecordFault}
 use Rattle.ssim_base.specs.BaseSeen.{BaseSeen}
 use Rattle.ssim_held.specs.Entries.{Entry}
 use Rattle.ssim_held.specs.File.{IsFileOf}
-use Rattle.ssim_held.specs.Opening.{RefusesFile}
+use Rattle.ssim_held.specs.clauses.Opening.{RefusesFile}
 use Rattle.ssim_held.specs.declared.fault.DeskFault.{DeskFault}
 use Rattle.ssim_held.specs.declared.fault.DeskFault.TheVariants.{Memory, Text, Resolve, Conflict, OtherBase, Read, File}
 use Rattle.ssim_command_line.specs.Line.{Text as Name}

@@ -1,10 +1,11 @@
 -- The export of a desk into an empty buffer is what the buffer has.
 use Rattle.std.proofs.Common.{◌∙◌, ◌++◌, ◌≡◌, ℕ, List, [], Some, Ok, Err, refl, sym, ap, subst}
-use Rattle.ssim_records.specs.Device.{Buffer, Writer}
+use Rattle.ssim_records.specs.clauses.Device.{Buffer}
+use Rattle.ssim_records.specs.Device.{Writer}
 use Rattle.ssim_schedule.specs.declared.export.ExportFault.{ExportFault}
 use Rattle.ssim_schedule.specs.declared.export.ExportFault.TheVariants as export
 use Rattle.ssim_held.specs.Held.{DeskState}
-use Rattle.ssim_desk.specs.Desk.{WritesDesk}
+use Rattle.ssim_desk.specs.clauses.Desk.{WritesDesk}
 use Rattle.ssim_desk.specs.Meaning.{Exports}
 use Rattle.ssim_program.specs.rehearse.Rehearsal.{IsOutcome}
 

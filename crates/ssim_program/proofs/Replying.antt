@@ -6,7 +6,8 @@ use Rattle.clap.specs.Words.{fault_of}
 use Rattle.clap.specs.declared.error.kind.ErrorKind.{ErrorKind}
 use Rattle.ssim_base.specs.Export.{line}
 use Rattle.ssim_command_line.specs.Usage.{whole_program}
-use Rattle.ssim_command_line.specs.Usage.{IsFaultOf, is_help}
+use Rattle.ssim_command_line.specs.clauses.Usage.{IsFaultOf}
+use Rattle.ssim_command_line.specs.Usage.{is_help}
 use Rattle.ssim_command_line.specs.declared.command_line.LineFault.{LineFault}
 use Rattle.ssim_command_line.specs.declared.command_line.LineFault.TheVariants as fault
 use Rattle.ssim_program.specs.Acts.{Act, Print, Keep, Stop}

@@ -4,7 +4,8 @@ use Rattle.std.specs.Prelude.{IfSome}
 use Rattle.ssim_records.specs.declared.fault.RecordFault.TheVariants.{Short, BadType, BadColumn, ReadFault, ReaderNeverEnds}
 use Rattle.ssim_records.specs.declared.record.Record.{Record}
 use Rattle.ssim_base.specs.Base.{Outcome}
-use Rattle.ssim_base.specs.Reading.{HaveCome, FailsAs, IsReadAs, NeverEnds, RefusesWhole}
+use Rattle.ssim_base.specs.clauses.Reading.{HaveCome, FailsAs, NeverEnds, RefusesWhole}
+use Rattle.ssim_base.specs.Reading.{IsReadAs}
 use Rattle.ssim_base.specs.declared.fault.BaseFault.{BaseFault}
 use Rattle.ssim_base.specs.declared.fault.BaseFault.TheVariants as fault
 use Rattle.ssim_base.specs.declared.fault.BaseFault.TheVariants.{Read, Refused}

@@ -49,12 +49,6 @@ CountsKeep old new (Ok x) = new ≡ old
 CountsKeep old new (Err keep.Fault) = new ≡ (old + 1) % 2 ^ 64
 CountsKeep old new (Err _) = new ≡ old
 
--- the number of a store's fault: 90 if memory ran out; 91 if there is no such file within the
--- limit, or it cannot be read or written
-abbrev pub store_fault_number : StoreFault → ℕ
-store_fault_number fault.Memory = 90
-store_fault_number fault.Fault = 91
-
 -- the names and the bytes of files that are kept, in order
 abbrev pub Kept : Type 0
 Kept = List (List ℕ × List ℕ)

@@ -19,5 +19,6 @@ pub mod Runs
 pub mod rehearse
 pub mod Explained
 pub mod Timetables
+pub mod clauses
 pub mod examples
 pub mod internal

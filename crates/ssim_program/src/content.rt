@@ -1,7 +1,7 @@
 //! What is kept in files.
 
 ghost use Rattle.std.specs.Prelude.{List, ℕ};
-ghost use Rattle.ssim_base.specs.Sinks.{Puts};
+ghost use Rattle.ssim_base.specs.clauses.Sinks.{Puts};
 ghost use Rattle.ssim_held.specs.File.{desk_file};
 
 use ssim_base::{OutputBuffer, WriteFault, flush, put_bytes};

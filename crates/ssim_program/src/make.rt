@@ -1,7 +1,7 @@
 //! What a request makes, a line for each command.
 
 ghost use Rattle.std.specs.Prelude.{◌≡◌, IfOk, IsTrue, List, Option, ℕ};
-ghost use Rattle.ssim_command_line.specs.Request.{line_of};
+ghost use Rattle.ssim_command_line.specs.clauses.Request.{line_of};
 ghost use Rattle.ssim_program.specs.Again.{PrintsItself};
 ghost use Rattle.ssim_program.specs.Answers.{answers};
 ghost use Rattle.ssim_program.specs.internal.Program.{AreLines, MadeItself, MakesOr};

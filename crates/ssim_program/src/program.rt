@@ -3,7 +3,7 @@
 ghost use Rattle.std.specs.Prelude.{◌≡◌, ◌≤◌, ℕ, IsTrue, OnOk, false, map, true};
 ghost use Rattle.clap.specs.Words.{kind_of};
 ghost use Rattle.ssim_command_line.specs.Line.{Line, Spells};
-ghost use Rattle.ssim_command_line.specs.Request.{line_of};
+ghost use Rattle.ssim_command_line.specs.clauses.Request.{line_of};
 ghost use Rattle.ssim_command_line.specs.Usage.{Names, is_help};
 ghost use Rattle.ssim_program.specs.Again.{PrintsItself};
 ghost use Rattle.ssim_program.specs.Answers.{answers};

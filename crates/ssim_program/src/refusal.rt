@@ -6,7 +6,8 @@ ghost use Rattle.ssim_program.specs.print.Refusal.{refusal_file, refusal_name};
 ghost use Rattle.ssim_program.specs.print.Refusal.{refusal_number};
 ghost use Rattle.ssim_program.specs.print.Refusal.{refusal_of_base, refusal_of_desk};
 ghost use Rattle.ssim_program.specs.print.Refusal.{refusal_of_export, refusal_of_outbox};
-ghost use Rattle.ssim_program.specs.print.Refusal.{refusal_of_stations, refusal_of_value};
+ghost use Rattle.ssim_program.specs.print.Refusal.{refusal_of_stations};
+ghost use Rattle.ssim_program.specs.clauses.print.Refusal.{refusal_of_value};
 ghost use Rattle.ssim_program.specs.print.Refusal.{refusal_place, refusal_text};
 
 use crate::print::name::printed_name;

@@ -8,7 +8,8 @@ use Rattle.ssim_text.specs.declared.action.Action.{Action}
 use Rattle.ssim_base.specs.Stations.{Row}
 use Rattle.ssim_base.specs.Timetable.{Legs, same_flight}
 use Rattle.ssim_schedule.specs.Acts.{after_on, itinerary_after}
-use Rattle.ssim_publish.specs.Acting.{ActEach, ActOn}
+use Rattle.ssim_publish.specs.clauses.Acting.{ActEach}
+use Rattle.ssim_publish.specs.Acting.{ActOn}
 use Rattle.ssim_publish.specs.Published.{legs_after}
 use Rattle.ssim_publish.specs.Reach.{after_all}
 use Rattle.ssim_publish.specs.declared.planned_sub.PlannedSub.{PlannedSub}

@@ -8,7 +8,8 @@ use Rattle.ssim_values.specs.Clock.{clock_text}
 use Rattle.ssim_values.specs.Station.{is_station}
 use Rattle.ssim_columns.specs.Columns.{filled}
 use Rattle.ssim_columns.specs.Leg.{leg_columns, spread}
-use Rattle.ssim_columns.specs.LegParts.{ChangesEquipment, ChangesTimes, EquipmentFields}
+use Rattle.ssim_columns.specs.clauses.LegParts.{ChangesEquipment, ChangesTimes}
+use Rattle.ssim_columns.specs.LegParts.{EquipmentFields}
 use Rattle.ssim_columns.specs.LegParts.{date_variations, new_leg, station_columns, with_equipment}
 use Rattle.ssim_columns.specs.LegParts.{with_times}
 use Rattle.ssim_columns.specs.declared.leg.leg_parts.LegStations.{LegStations}

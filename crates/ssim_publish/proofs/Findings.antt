@@ -9,15 +9,17 @@ use Rattle.ssim_base.specs.ReadBack.{place_of}
 use Rattle.ssim_base.specs.Stations.{Row}
 use Rattle.ssim_base.proofs.Places.{same-self}
 use Rattle.ssim_base.specs.Timetable.{Days, Legs, on_day}
-use Rattle.ssim_schedule.specs.Acts.{acted_on, after_on, after_sub, changed_by, class_on, counted_by}
+use Rattle.ssim_schedule.specs.clauses.Acts.{acted_on, after_sub, changed_by}
+use Rattle.ssim_schedule.specs.Acts.{after_on, class_on, counted_by}
 use Rattle.ssim_schedule.specs.Acts.{finding_of, itinerary_after}
-use Rattle.ssim_schedule.specs.Schedule.{Flown, days_in}
+use Rattle.ssim_schedule.specs.clauses.Schedule.{Flown, days_in}
 use Rattle.ssim_schedule.specs.Effect.{class_number, effect}
 use Rattle.ssim_schedule.specs.declared.finding.Finding.{Finding}
 use Rattle.ssim_schedule.specs.declared.finding.Reason.{Reason}
 use Rattle.ssim_schedule.specs.declared.finding.Reason.TheVariants.{Absent, Acted, Leg, Present}
 use Rattle.ssim_schedule.specs.declared.finding.Reason.TheVariants.{Station}
-use Rattle.ssim_publish.specs.Acting.{ActEach, DoesAct}
+use Rattle.ssim_publish.specs.clauses.Acting.{ActEach}
+use Rattle.ssim_publish.specs.Acting.{DoesAct}
 use Rattle.ssim_publish.specs.internal.Drafts.{ActOnEach, AreAsLong, IsAllActed}
 
 -- no day of the set has the class

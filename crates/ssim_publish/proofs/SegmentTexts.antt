@@ -8,12 +8,13 @@ use Rattle.std.proofs.lemmas.Bool.Decides.{nat_tests}
 use Rattle.ssim_values.specs.Station.{is_station}
 use Rattle.ssim_columns.specs.Columns.{filled}
 use Rattle.ssim_columns.specs.Numbers.{digits}
-use Rattle.ssim_columns.specs.Segment.{new_tail, tail_columns}
+use Rattle.ssim_columns.specs.Segment.{new_tail}
+use Rattle.ssim_columns.specs.clauses.Segment.{tail_columns}
 use Rattle.ssim_columns.proofs.lemmas.CarriedTexts.{filled_carried, length_station}
 use Rattle.ssim_columns.proofs.lemmas.NewTails.{is_new_tail}
 use Rattle.ssim_columns.proofs.lemmas.Places.{all_placed}
 use Rattle.ssim_columns.proofs.lemmas.Segments.{tail_part}
-use Rattle.ssim_text.specs.Bounds.{IsSegmentBounded}
+use Rattle.ssim_text.specs.clauses.Bounds.{IsSegmentBounded}
 use Rattle.ssim_text.specs.Canonical.{segment_line_text, short_digits}
 use Rattle.ssim_text.specs.Left.{is_dropped, onto, without_end}
 use Rattle.ssim_text.specs.declared.segment.SegmentLine.{SegmentLine}

@@ -12,13 +12,14 @@ use Rattle.ssim_periods.specs.Calendar.{day_count, holds, slot}
 use Rattle.ssim_text.specs.declared.action.Action.{Action}
 use Rattle.ssim_base.proofs.Places.{same-self, same-true}
 use Rattle.ssim_base.specs.Export.{same_itinerary}
-use Rattle.ssim_base.specs.ItineraryLaws.{exact_itinerary}
+use Rattle.ssim_base.specs.clauses.ItineraryLaws.{exact_itinerary}
 use Rattle.ssim_base.specs.Stations.{Row}
 use Rattle.ssim_base.specs.Timetable.{Days, Legs, on_day, same_flight}
-use Rattle.ssim_schedule.specs.Schedule.{days_in}
+use Rattle.ssim_schedule.specs.clauses.Schedule.{days_in}
 use Rattle.ssim_difference.specs.Differences.{differences}
 use Rattle.ssim_text.proofs.ReadsBack.{all_both}
-use Rattle.ssim_publish.specs.Acting.{ActEach, ActOn}
+use Rattle.ssim_publish.specs.clauses.Acting.{ActEach}
+use Rattle.ssim_publish.specs.Acting.{ActOn}
 use Rattle.ssim_publish.specs.Published.{IsPublished, IsPublishedOn, NamesDifferences, legs_after}
 use Rattle.ssim_publish.specs.Reach.{IsSaid, Leads, Reach, after_all}
 use Rattle.ssim_publish.specs.declared.draft.Draft.{Draft}

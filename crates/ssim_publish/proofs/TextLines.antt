@@ -18,7 +18,7 @@ use Rattle.ssim_columns.specs.declared.leg.leg_parts.LegTimes.{LegTimes}
 use Rattle.ssim_columns.proofs.lemmas.OwnColumns.{own_middle, own_service, own_tail}
 use Rattle.ssim_columns.proofs.lemmas.Overlay.{slice_cut}
 use Rattle.ssim_text.specs.Bytes.{after_word, is_alphanumeric, is_printable, word}
-use Rattle.ssim_text.specs.Bounds.{IsEquipmentBounded}
+use Rattle.ssim_text.specs.clauses.Bounds.{IsEquipmentBounded}
 use Rattle.ssim_text.specs.Canonical.{canonical, equipment_text, leg_text, passenger_text}
 use Rattle.ssim_text.specs.Canonical.{variation_text}
 use Rattle.ssim_text.specs.Left.{onto, without_end}

@@ -7,7 +7,7 @@ use Rattle.std.proofs.lemmas.Option.{unwrap_or-slice_get}
 use Rattle.std.specs.List.{Contains}
 use Rattle.std.specs.List.Sorted.{IsStrictlyIncreasing}
 use Rattle.ssim_values.specs.Calendar.{weekday}
-use Rattle.ssim_values.specs.DayMask.{operates}
+use Rattle.ssim_values.specs.clauses.DayMask.{operates}
 use Rattle.ssim_values.specs.Period.{DayRange}
 use Rattle.ssim_periods.specs.Calendar.{day_count, holds}
 use Rattle.ssim_periods.proofs.CountLemmas.{le_or_lt}

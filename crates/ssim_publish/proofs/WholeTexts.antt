@@ -9,7 +9,7 @@ use Rattle.ssim_columns.specs.Leg.{leg_columns, spread}
 use Rattle.ssim_columns.specs.LegParts as leg
 use Rattle.ssim_columns.specs.LegParts.{new_leg, station_columns}
 use Rattle.ssim_columns.proofs.lemmas.Rows.{same_columns}
-use Rattle.ssim_text.specs.Bounds.{AreNewLegsBounded, IsSegmentBounded}
+use Rattle.ssim_text.specs.clauses.Bounds.{AreNewLegsBounded, IsSegmentBounded}
 use Rattle.ssim_text.specs.Bytes.{word}
 use Rattle.ssim_text.specs.Canonical.{canonical, equipment_text, leg_text, segment_line_text}
 use Rattle.ssim_text.specs.Canonical.{short_digits, written}

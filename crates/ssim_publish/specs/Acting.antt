@@ -7,18 +7,12 @@ use Rattle.ssim_periods.specs.Calendar.{day_count, holds}
 use Rattle.ssim_text.specs.declared.action.Action.{Action}
 use Rattle.ssim_base.specs.Stations.{Row}
 use Rattle.ssim_base.specs.Timetable.{Days, Legs, on_day, same_flight}
-use Rattle.ssim_schedule.specs.Acts.{after_on, class_on, itinerary_after}
+use Rattle.ssim_schedule.specs.Acts.{class_on, itinerary_after}
 use Rattle.ssim_publish.specs.declared.planned_sub.PlannedSub.{PlannedSub}
 
 -- an action acts on what a flight has on a day: its reason is `Acted`, which is of class 0
 abbrev pub DoesAct : List Row → Action → ℕ → Legs → Type 0
 DoesAct rows action day legs = class_on rows action day legs ≡ 0
-
--- of actions, one after another, each acts on what those before it leave
-abbrev pub ActEach : List Row → ℕ → List Action → Legs → Type 0
-ActEach rows day [] legs = Unit {0}
-ActEach rows day (action ∷ actions) legs =
-    DoesAct rows action day legs × ActEach rows day actions (after_on rows action day legs)
 
 -- of sub-messages, one after another, each that names the flight, and whose period holds the day,
 -- acts on what those before it leave

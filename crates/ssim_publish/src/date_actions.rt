@@ -1,7 +1,7 @@
 //! The actions that make the new itinerary of a date of the old one.
 
 ghost use Rattle.std.specs.Prelude.{IfOk, IfSome, IsSome};
-ghost use Rattle.ssim_publish.specs.Acting.{ActEach};
+ghost use Rattle.ssim_publish.specs.clauses.Acting.{ActEach};
 ghost use Rattle.ssim_publish.specs.Reach.{Leads, Reach};
 ghost use Rattle.ssim_publish.specs.Sayable.{HaveColumns};
 ghost use Rattle.ssim_publish.specs.internal.Candidates.{AnyMakes};

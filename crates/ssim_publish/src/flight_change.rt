@@ -1,7 +1,7 @@
 //! A flight with what it has in two timetables.
 
 ghost use Rattle.std.specs.Prelude.{◌≡◌, IfOk};
-ghost use Rattle.ssim_schedule.specs.Schedule.{days_in};
+ghost use Rattle.ssim_schedule.specs.clauses.Schedule.{days_in};
 ghost use Rattle.ssim_publish.specs.internal.Drafts.{IsChangeOf};
 
 use ssim_periods::Periods;

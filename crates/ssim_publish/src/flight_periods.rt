@@ -4,7 +4,7 @@ ghost use Rattle.std.specs.Prelude.{IfOk, OnOk};
 ghost use Rattle.std.specs.List.{AllByRecursion};
 ghost use Rattle.ssim_values.specs.Flight.{FlightNumber};
 ghost use Rattle.ssim_base.specs.Timetable.{Days};
-ghost use Rattle.ssim_schedule.specs.Schedule.{days_in};
+ghost use Rattle.ssim_schedule.specs.clauses.Schedule.{days_in};
 ghost use Rattle.ssim_publish.specs.Reach.{IsSaid};
 ghost use Rattle.ssim_publish.specs.internal.Drafts.{IsChangeOf, IsDraft};
 

@@ -5,7 +5,7 @@ ghost use Rattle.std.specs.List.{AllByRecursion};
 ghost use Rattle.ssim_values.specs.Flight.{FlightNumber};
 ghost use Rattle.ssim_base.specs.Timetable.{Days};
 ghost use Rattle.ssim_schedule.specs.FlightPieces.{divided_flights};
-ghost use Rattle.ssim_schedule.specs.Schedule.{days_in};
+ghost use Rattle.ssim_schedule.specs.clauses.Schedule.{days_in};
 ghost use Rattle.ssim_difference.specs.Differences.{differences};
 ghost use Rattle.ssim_publish.specs.Acting.{ActOnTheirDates};
 ghost use Rattle.ssim_publish.specs.Published.{IsPublished, Leave, NamesDifferences};

@@ -3,7 +3,8 @@
 
 ghost use Rattle.std.specs.Prelude.{◌≡◌, ◌++◌, IfOk, IsTrue, OnOk};
 ghost use Rattle.std.specs.Str.{bytes_eq};
-ghost use Rattle.ssim_columns.specs.Leg.{is_own, leg_columns};
+ghost use Rattle.ssim_columns.specs.clauses.Leg.{is_own};
+ghost use Rattle.ssim_columns.specs.Leg.{leg_columns};
 ghost use Rattle.ssim_publish.specs.internal.ColumnLines.{retimed_columns, same_route};
 ghost use Rattle.ssim_publish.specs.internal.ColumnLines.{same_stations, same_times};
 

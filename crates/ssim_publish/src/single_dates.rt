@@ -3,7 +3,7 @@
 ghost use Rattle.std.specs.Prelude.{◌≡◌, OnOk};
 ghost use Rattle.ssim_values.specs.Flight.{FlightNumber};
 ghost use Rattle.ssim_base.specs.Timetable.{Days};
-ghost use Rattle.ssim_schedule.specs.Schedule.{days_in};
+ghost use Rattle.ssim_schedule.specs.clauses.Schedule.{days_in};
 ghost use Rattle.ssim_publish.specs.internal.Drafts.{IsChangeOf, IsDraft, Settles, date_at};
 ghost use Rattle.ssim_publish.specs.internal.Drafts.{dates_of_flights, dates_of_period};
 ghost use Rattle.ssim_publish.specs.internal.Drafts.{dates_of_pieces, one_date};

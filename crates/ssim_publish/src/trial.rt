@@ -3,7 +3,8 @@
 ghost use Rattle.std.specs.Prelude.{◌≡◌, false, true, IfOk, IfSome, IsSome, OnOk};
 ghost use Rattle.std.specs.List.{AllByRecursion};
 ghost use Rattle.ssim_schedule.specs.Acts.{after_on};
-ghost use Rattle.ssim_publish.specs.Acting.{ActEach, DoesAct};
+ghost use Rattle.ssim_publish.specs.clauses.Acting.{ActEach};
+ghost use Rattle.ssim_publish.specs.Acting.{DoesAct};
 ghost use Rattle.ssim_publish.specs.Reach.{IsSaid, after_all};
 
 use ssim_base::StationRow;

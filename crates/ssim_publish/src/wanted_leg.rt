@@ -1,7 +1,7 @@
 //! Which columns of one leg no message can make.
 
 ghost use Rattle.std.specs.Prelude.{IsTrue};
-ghost use Rattle.ssim_columns.specs.Leg.{is_own};
+ghost use Rattle.ssim_columns.specs.clauses.Leg.{is_own};
 
 use crate::obstacle::Obstacle;
 use crate::retimed_legs::have_same;

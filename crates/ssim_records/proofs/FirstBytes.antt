@@ -4,7 +4,7 @@ use Rattle.std.specs.List.{copy_within}
 use Rattle.std.specs.Io.KnownBytes.{Consumes, prepend_known}
 use Rattle.std.proofs.lemmas.List.{drop-take, length-take-le, take-append-drop, take-append-le, take-take, take_at}
 use borrow.Rule.Slice.PartMut.{put_mid, post_of}
-use Rattle.ssim_records.specs.Device.{CountChanges}
+use Rattle.ssim_records.specs.clauses.Device.{CountChanges}
 use Rattle.ssim_records.proofs.Windows.{take_through}
 
 -- the bytes that are held after a fetch

@@ -9,9 +9,10 @@ use Rattle.std.proofs.lemmas.Bool.Decides.{nat_tests}
 use Rattle.ssim_records.specs.declared.blocks.Stop.{Stop}
 use Rattle.ssim_records.specs.declared.blocks.Stop.TheVariants.{Short, ReadFault, ReaderNeverEnds}
 use Rattle.ssim_records.specs.declared.device.DeviceFault.{DeviceFault}
-use Rattle.ssim_records.specs.Device.{CountChanges}
+use Rattle.ssim_records.specs.clauses.Device.{CountChanges}
 use Rattle.ssim_records.specs.Frames.{trim, Frames, others, is_fill}
-use Rattle.ssim_records.specs.Blocks.{CameOn, SameAhead, CountGoesOn, Fetches, StaysLeft, Takes}
+use Rattle.ssim_records.specs.clauses.Blocks.{CameOn, SameAhead, CountGoesOn, Fetches, StaysLeft}
+use Rattle.ssim_records.specs.clauses.Blocks.{Takes}
 use Rattle.ssim_records.specs.internal.Blocks.{NextBlock, GivesBlock, GivesOther, Ahead}
 use Rattle.ssim_records.proofs.LineEnds.{trim_front, trim_pass, trim_twice, trim_less}
 use Rattle.ssim_columns.proofs.lemmas.Slices.{same_front, same_back}

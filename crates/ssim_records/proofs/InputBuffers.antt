@@ -3,9 +3,10 @@
 use Rattle.std.proofs.Common.{◌≡◌, ℕ, ◌+◌, List, [], ◌++◌, length, take, drop, Option, Some, None, Ok, refl, sym, ap, ◌∙◌, append_assoc, arith}
 use Rattle.std.specs.Io.KnownBytes.{Consumes}
 use Rattle.std.proofs.lemmas.List.{length-append, take-append-drop}
-use Rattle.ssim_records.specs.Blocks.{CameOn, SameAhead}
-use Rattle.ssim_records.specs.Device.{CountsBytes, Reader}
-use Rattle.ssim_records.specs.InputBuffer.{Gives, Input, Stops, Uses, ahead}
+use Rattle.ssim_records.specs.clauses.Blocks.{CameOn, SameAhead}
+use Rattle.ssim_records.specs.clauses.Device.{CountsBytes}
+use Rattle.ssim_records.specs.Device.{Reader}
+use Rattle.ssim_records.specs.clauses.InputBuffer.{Gives, Input, Stops, Uses, ahead}
 use Rattle.ssim_records.specs.declared.input_buffer.InputFault.{InputFault}
 use Rattle.ssim_records.specs.declared.input_buffer.InputFault.TheVariants.{ReadFault, ReaderNeverEnds}
 use Rattle.ssim_records.proofs.Framing.{came_none, counts_none, counts_on, counts_twice}

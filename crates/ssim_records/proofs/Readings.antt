@@ -8,8 +8,10 @@ use Rattle.ssim_columns.specs.declared.field.Field.{Field}
 use Rattle.ssim_records.specs.declared.record.Record.{Record}
 use Rattle.ssim_columns.specs.Columns.{first_fault}
 use Rattle.ssim_records.specs.internal.Blocks.{GivesOther}
-use Rattle.ssim_records.specs.Record.{Spells, HasSpelt, fault_of, fault_by, column_fault, table_of}
-use Rattle.ssim_records.specs.Reading.{Reading, IsAhead, Returns, GivesNext, GivesNextBlock, given, IsRefused, HoldsFew}
+use Rattle.ssim_records.specs.Record.{Spells, fault_of, fault_by, column_fault, table_of}
+use Rattle.ssim_records.specs.clauses.Record.{HasSpelt}
+use Rattle.ssim_records.specs.clauses.Reading.{Reading, IsAhead, Returns, GivesNext, GivesNextBlock}
+use Rattle.ssim_records.specs.clauses.Reading.{given, IsRefused, HoldsFew}
 
 -- ---- the faults of a block
 

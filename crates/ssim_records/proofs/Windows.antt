@@ -7,7 +7,7 @@ use Rattle.std.specs.Io.KnownBytes.{Consumes}
 use Rattle.std.proofs.lemmas.List.{take-take, drop-take, drop-drop, take_at, drop_at, length-append, take-append-le, take-append-drop}
 use borrow.Rule.Slice.PartMut.{put_mid, post_of}
 use Rattle.ssim_records.specs.Frames.{drop_line_ends}
-use Rattle.ssim_records.specs.Blocks.{SameAhead}
+use Rattle.ssim_records.specs.clauses.Blocks.{SameAhead}
 use Rattle.ssim_columns.proofs.lemmas.Slices.{length_slice}
 use Rattle.ssim_records.proofs.LineEnds.{is_end}
 

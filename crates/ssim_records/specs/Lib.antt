@@ -1,12 +1,10 @@
 pub mod Device
 pub mod Frames
-pub mod Blocks
 pub mod Header
 pub mod Carrier
 pub mod Trailer
 pub mod Record
-pub mod Reading
-pub mod InputBuffer
+pub mod clauses
 pub mod examples
 pub mod internal
 pub use Rattle.ssim_columns.specs.Numbers

@@ -22,11 +22,6 @@ Spells (Leg r) bytes = SpellsLeg r bytes
 Spells (Segment r) bytes = SpellsSegment r bytes
 Spells (Trailer r) bytes = SpellsTrailer r bytes
 
--- the record that was put in is the one that the bytes spell
-abbrev pub HasSpelt : Option Record → List ℕ → Type 0
-HasSpelt None bytes = ⊥
-HasSpelt (Some r) bytes = Spells r bytes
-
 -- the record has a spelling: each of its values fits its columns
 abbrev pub IsRecord : Record → Type 0
 IsRecord (Header r) = IsHeader r
@@ -101,14 +96,6 @@ serial_of (Carrier r) = r.serial
 serial_of (Leg r) = r.serial
 serial_of (Segment r) = r.serial
 serial_of (Trailer r) = r.serial
-
--- a record with this serial
-abbrev pub with_serial : ℕ → Record → Record
-with_serial n (Header r) = Header (record r { serial = n })
-with_serial n (Carrier r) = Carrier (record r { serial = n })
-with_serial n (Leg r) = Leg (record r { serial = n })
-with_serial n (Segment r) = Segment (record r { serial = n })
-with_serial n (Trailer r) = Trailer (record r { serial = n })
 
 -- ---- records that are written one after another
 

@@ -4,7 +4,7 @@ ghost use Rattle.std.specs.Prelude.{◌≡◌, ◌<◌, ◌≤◌, ◌+◌, ◌*
 ghost use Rattle.std.specs.Io.KnownBytes.{IsAtEnd};
 ghost use Rattle.ssim_records.specs.declared.blocks.Stop.TheVariants.{ReaderNeverEnds};
 ghost use Rattle.ssim_records.specs.Frames.{is_fill};
-ghost use Rattle.ssim_records.specs.Blocks.{CameOn, CountsOn, Fetches, StaysLeft};
+ghost use Rattle.ssim_records.specs.clauses.Blocks.{CameOn, CountsOn, Fetches, StaysLeft};
 ghost use Rattle.ssim_records.specs.internal.Blocks.{behind_front, with_front, FailsAtRest};
 ghost use Rattle.ssim_records.specs.internal.Blocks.{GivesBlock, GivesOther, FailsOnce, LeavesFew};
 ghost use Rattle.ssim_records.specs.internal.Blocks.{block_count, refusal_of};

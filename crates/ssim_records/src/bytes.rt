@@ -3,7 +3,7 @@
 ghost use Rattle.std.specs.Prelude.{◌≡◌, [], Some, length, IfOk, IfErr};
 ghost use Rattle.std.specs.Io.{WritesAtMost};
 ghost use Rattle.std.specs.Io.KnownBytes.{WriteAppends};
-ghost use Rattle.ssim_records.specs.Device.{CountsPut};
+ghost use Rattle.ssim_records.specs.clauses.Device.{CountsPut};
 
 use crate::device::{DeviceFault, Sink};
 use std::alloc::Global;
@@ -19,7 +19,7 @@ pub struct Bytes {
 }
 
 impl Model for Bytes {
-    ghost use Rattle.ssim_records.specs.Device.{Buffer};
+    ghost use Rattle.ssim_records.specs.clauses.Device.{Buffer};
 
     ghost Value = { Buffer };
 

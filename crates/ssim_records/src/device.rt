@@ -3,7 +3,8 @@
 ghost use Rattle.std.specs.Prelude.{◌≡◌, Some, Ok, length, min};
 ghost use Rattle.std.specs.Io.{ReadsAtMost, WritesAtMost};
 ghost use Rattle.std.specs.Io.KnownBytes.{ReadConsumes, WriteAppends};
-ghost use Rattle.ssim_records.specs.Device.{CountsBytes, CountsFailure, CountsPut, Reader, Writer};
+ghost use Rattle.ssim_records.specs.clauses.Device.{CountsBytes, CountsFailure, CountsPut};
+ghost use Rattle.ssim_records.specs.Device.{Reader, Writer};
 
 use thiserror::Error;
 

@@ -2,7 +2,7 @@
 
 ghost use Rattle.std.specs.Prelude.{◌≡◌, ◌<◌, ◌≤◌, ◌+◌, ◌-◌, [], IfErr, IfOk, Ok, OnOk, drop, false, length, take, true};
 ghost use Rattle.std.specs.Io.KnownBytes.{IsAtEnd};
-ghost use Rattle.ssim_records.specs.InputBuffer.{Gives, Stops, Uses};
+ghost use Rattle.ssim_records.specs.clauses.InputBuffer.{Gives, Stops, Uses};
 
 use crate::device::Source;
 use crate::window::{ROOM, Window};
@@ -36,7 +36,7 @@ pub struct InputBuffer {
 
 impl Model for InputBuffer {
     ghost use Rattle.std.specs.Prelude.{◌≤◌, length};
-    ghost use Rattle.ssim_records.specs.InputBuffer.{Input};
+    ghost use Rattle.ssim_records.specs.clauses.InputBuffer.{Input};
 
     ghost Value = { Input };
 

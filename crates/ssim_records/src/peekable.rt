@@ -4,7 +4,7 @@ ghost use Rattle.std.specs.Prelude.{◌≡◌, ◌⊎◌, ◌<◌, ◌≤◌, �
 ghost use Rattle.std.specs.Prelude.{IfOk, IfSome, OnErr, OnOk, Ok, nat_eq};
 ghost use Rattle.std.specs.Io.KnownBytes.{IsAtEnd, prepend_known};
 ghost use Rattle.std.specs.List.{starts_with};
-ghost use Rattle.ssim_records.specs.Device.{CountsFailure};
+ghost use Rattle.ssim_records.specs.clauses.Device.{CountsFailure};
 
 use crate::device::{DeviceFault, Source};
 use std::marker::Model;

@@ -3,7 +3,8 @@
 ghost use Rattle.std.specs.Prelude.{◌≡◌, ◌≢◌, ◌<◌, ◌↔◌, ◌∷◌, [], Ok, Some, IfOk, IfErr, OnOk, IsTrue, false, length};
 ghost use Rattle.ssim_columns.specs.Columns.{columns};
 ghost use Rattle.ssim_records.specs.declared.record.Record.{Record};
-ghost use Rattle.ssim_records.specs.Record.{Spells, HasSpelt, IsRecord, written, fault_of, with_serial, serial_of};
+ghost use Rattle.ssim_records.specs.Record.{Spells, IsRecord, written, fault_of, serial_of};
+ghost use Rattle.ssim_records.specs.clauses.Record.{HasSpelt, with_serial};
 ghost use Rattle.ssim_records.specs.internal.Record.{HasBadColumn, HasBadType};
 
 pub(crate) mod carrier;

@@ -2,9 +2,12 @@
 
 ghost use Rattle.std.specs.Prelude.{◌≡◌, ◌≤◌, ◌<◌, ◌+◌, ◌*◌, [], IfNone, IfSome, IfErr, IfOk, OnOk};
 ghost use Rattle.std.specs.Io.KnownBytes.{IsAtEnd};
-ghost use Rattle.ssim_records.specs.Blocks.{CameOn, CountsOn, StaysLeft};
-ghost use Rattle.ssim_records.specs.Reading.{Counts, FailsAs, FetchesNext, GivesNext, HasNumber, HoldsFew, NeverEnds, RestFails, given, last_answer, ending_of};
-ghost use Rattle.ssim_records.specs.Reading.{CountsBlock, GivesNextBlock, IsNoBlockFault, block_ending, last_block, without_block};
+ghost use Rattle.ssim_records.specs.clauses.Blocks.{CameOn, CountsOn, StaysLeft};
+ghost use Rattle.ssim_records.specs.clauses.Reading.{Counts, FailsAs, FetchesNext, GivesNext};
+ghost use Rattle.ssim_records.specs.clauses.Reading.{HasNumber, HoldsFew, NeverEnds, RestFails};
+ghost use Rattle.ssim_records.specs.clauses.Reading.{given, last_answer, ending_of};
+ghost use Rattle.ssim_records.specs.clauses.Reading.{CountsBlock, GivesNextBlock, IsNoBlockFault};
+ghost use Rattle.ssim_records.specs.clauses.Reading.{block_ending, last_block, without_block};
 
 use crate::blocks::{next_other, skip_rest};
 use crate::device::Source;
@@ -44,7 +47,7 @@ pub struct Records {
 
 impl Model for Records {
     ghost use Rattle.std.specs.Prelude.{◌≤◌, ◌+◌, ◌*◌, length};
-    ghost use Rattle.ssim_records.specs.Reading.{Reading};
+    ghost use Rattle.ssim_records.specs.clauses.Reading.{Reading};
 
     ghost Value = { Reading };
 

@@ -3,7 +3,7 @@
 ghost use Rattle.std.specs.Prelude.{◌≡◌, None};
 ghost use Rattle.std.specs.Io.{ReadsAtMost, WritesAtMost};
 ghost use Rattle.std.specs.Io.KnownBytes.{ReadConsumes, WriteAppends};
-ghost use Rattle.ssim_records.specs.Device.{CountChanges, CountsFailure, CountsPut};
+ghost use Rattle.ssim_records.specs.clauses.Device.{CountChanges, CountsFailure, CountsPut};
 
 use crate::device::{DeviceFault, Sink, Source};
 use std::io::{Read, Write};

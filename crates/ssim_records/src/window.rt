@@ -2,9 +2,9 @@
 
 ghost use Rattle.std.specs.Prelude.{◌≡◌, ◌<◌, ◌≤◌, ◌+◌, [], length, take, drop, IfOk, IfSome, OnErr, Ok};
 ghost use Rattle.std.specs.Io.KnownBytes.{IsAtEnd};
-ghost use Rattle.ssim_records.specs.Device.{CountsBytes, CountsFailure};
+ghost use Rattle.ssim_records.specs.clauses.Device.{CountsBytes, CountsFailure};
 ghost use Rattle.ssim_records.specs.Frames.{drop_line_ends, trim};
-ghost use Rattle.ssim_records.specs.Blocks.{SameAhead};
+ghost use Rattle.ssim_records.specs.clauses.Blocks.{SameAhead};
 
 use crate::device::{DeviceFault, Source};
 use std::marker::Model;

@@ -6,13 +6,16 @@ use Rattle.std.proofs.lemmas.Bool.Decides.{nat_tests}
 use Rattle.std.proofs.lemmas.Slice.Eq.{bytes_eq-Decides}
 use Rattle.ssim_values.specs.Period.{DayRange}
 use Rattle.ssim_periods.specs.Calendar.{holds, slot}
-use Rattle.ssim_periods.specs.Days.{AddsOnly, changed_on, count_on, counts_on}
+use Rattle.ssim_periods.specs.clauses.Days.{AddsOnly}
+use Rattle.ssim_periods.specs.Days.{changed_on, count_on, counts_on}
 use Rattle.ssim_text.specs.declared.leg.LegLine.{LegLine}
 use Rattle.ssim_text.specs.declared.action.NewLegs.{NewLegs}
 use Rattle.ssim_text.specs.declared.action.Action.{Action}
 use Rattle.ssim_text.specs.declared.action.Action.TheVariants.{New, Cnl, Rpl, Eqt, Tim}
 use Rattle.ssim_schedule.specs.internal.ActionParts.{AddsPoints, IsSteady, IsUniform, before, counts_by, sums_of}
-use Rattle.ssim_schedule.specs.Acts.{acted_on, after_on, changed_by, class_on, counted_by, divides, is_at, is_named, is_point_of}
+use Rattle.ssim_schedule.specs.clauses.Acts.{acted_on, changed_by, divides, is_at, is_named}
+use Rattle.ssim_schedule.specs.clauses.Acts.{is_point_of}
+use Rattle.ssim_schedule.specs.Acts.{after_on, class_on, counted_by}
 use Rattle.ssim_schedule.specs.Effect.{Outcome, Variations, class_number, create, effect, joined, leg_at, legs_from, outcome, replace, variation_on}
 use Rattle.ssim_base.specs.Stations.{Row, variation_at}
 use Rattle.ssim_base.specs.Timetable.{Days, Legs}

@@ -5,7 +5,7 @@ use Rattle.ssim_values.specs.Flight.{FlightNumber}
 use Rattle.ssim_values.specs.Period.{DayRange}
 use Rattle.ssim_text.specs.declared.action.Action.{Action}
 use Rattle.ssim_schedule.specs.internal.ActionParts.{AddsPoints}
-use Rattle.ssim_schedule.specs.Acts.{AddsPointsOf, acted_on, after_sub, is_point_of}
+use Rattle.ssim_schedule.specs.clauses.Acts.{AddsPointsOf, acted_on, after_sub, is_point_of}
 use Rattle.ssim_base.specs.ReadBack.{place_of}
 use Rattle.ssim_schedule.specs.internal.Table.{AddsOnlyAt, Table, found, table_cuts, table_days}
 use Rattle.ssim_base.specs.Stations.{Row}

@@ -7,7 +7,7 @@ use Rattle.std.proofs.lemmas.Bool.Decides.{nat_tests}
 use Rattle.std.proofs.lemmas.List.{get_or_default, get_or_append_left, get_or-append_right, length-append}
 use Rattle.ssim_values.specs.Flight.{FlightNumber}
 use Rattle.ssim_values.specs.Period.{DayRange}
-use Rattle.ssim_periods.specs.Days.{Seen}
+use Rattle.ssim_periods.specs.clauses.Days.{Seen}
 use Rattle.ssim_base.specs.Timetable.{Legs}
 use Rattle.ssim_schedule.specs.internal.Blocks.{AreBlocks, AreOf, IsBlock, block_of, all_entries}
 use Rattle.ssim_base.specs.ReadBack.{place_of}

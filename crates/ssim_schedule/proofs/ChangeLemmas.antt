@@ -5,7 +5,8 @@ use Rattle.std.specs.List.{insert}
 use Rattle.std.proofs.lemmas.Bool.Decides.{nat_tests}
 use Rattle.ssim_values.specs.Flight.{FlightNumber}
 use Rattle.ssim_values.specs.Period.{DayRange}
-use Rattle.ssim_periods.specs.Days.{Seen, each_day, changed_on, AddsOnly}
+use Rattle.ssim_periods.specs.clauses.Days.{Seen, AddsOnly}
+use Rattle.ssim_periods.specs.Days.{each_day, changed_on}
 use Rattle.ssim_base.specs.Timetable.{Legs, Days}
 use Rattle.ssim_base.specs.ReadBack.{place_of}
 use Rattle.ssim_schedule.specs.internal.Table.{AddsOnlyAt, AreRising, IsAt, IsGapFor, Table, no_entry, table_cuts, table_days}

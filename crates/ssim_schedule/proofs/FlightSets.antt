@@ -13,10 +13,12 @@ use Rattle.ssim_periods.proofs.DayLemmas.{each_day-same}
 use Rattle.ssim_records.specs.Leg.{Name}
 use Rattle.ssim_records.specs.declared.record.Record.{Record}
 use Rattle.ssim_records.specs.declared.record.Record.TheVariants.{Header, Carrier, Leg, Segment, Trailer}
-use Rattle.ssim_schedule.specs.DivisionPoints.{AreAtPoints, is_point}
+use Rattle.ssim_schedule.specs.clauses.DivisionPoints.{AreAtPoints, is_point}
 use Rattle.ssim_schedule.specs.internal.FlightSet.{is_marked, is_record_of}
 use Rattle.ssim_base.specs.ReadBack.{place_of}
-use Rattle.ssim_base.specs.Timetable.{LegValue, Legs, days_of, is_among, itinerary, itinerary_among, leg_of, period_of, placed, same_flight, same_name, tails_of}
+use Rattle.ssim_base.specs.Timetable.{LegValue, Legs, days_of, is_among, itinerary, leg_of}
+use Rattle.ssim_base.specs.Timetable.{period_of, placed, same_flight, same_name, tails_of}
+use Rattle.ssim_base.specs.clauses.Timetable.{itinerary_among}
 use Rattle.ssim_base.proofs.Places.{same-true, same_flight-place}
 
 -- ---- marks

@@ -10,7 +10,8 @@ use Rattle.ssim_text.specs.declared.leg.LegLine.{LegLine}
 use Rattle.ssim_text.specs.declared.action.NewLegs.{NewLegs}
 use Rattle.ssim_text.specs.declared.action.Action.{Action}
 use Rattle.ssim_text.specs.declared.action.Action.TheVariants.{New, Cnl, Rpl, Eqt, Tim}
-use Rattle.ssim_schedule.specs.Acts.{acted_on, after_on, after_sub, changed_by, itinerary_after, lines_of}
+use Rattle.ssim_schedule.specs.clauses.Acts.{acted_on, after_sub, changed_by, lines_of}
+use Rattle.ssim_schedule.specs.Acts.{after_on, itinerary_after}
 use Rattle.ssim_schedule.specs.Effect.{Outcome, Variations, act_or, equipped, fits, have_legs, joined, leg_at, legs_from, outcome, retimed, variation_on, with_line, with_lines}
 use Rattle.ssim_base.specs.ReadBack.{AreInOrder, IsTimetable, place_of}
 use Rattle.ssim_schedule.specs.internal.Table.{Table, table_days}

@@ -4,7 +4,7 @@ use Rattle.std.proofs.Common.{◌≡◌, ◌≤◌, ℕ, suc, ◌+◌, Bool, tru
 use Rattle.std.proofs.Common.{[], ◌∷◌, ◌++◌, take, drop, refl, sym, ap, ◌∙◌, arith}
 use Rattle.std.proofs.lemmas.Bool.Decides.{nat_tests}
 use Rattle.ssim_schedule.specs.internal.LegGroup.{StartsFrom}
-use Rattle.ssim_schedule.specs.PlacedLegs.{legs_before, placed_each}
+use Rattle.ssim_schedule.specs.clauses.PlacedLegs.{legs_before, placed_each}
 use Rattle.ssim_base.specs.Timetable.{LegValue, Legs, placed}
 
 -- no others

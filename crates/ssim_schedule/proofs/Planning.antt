@@ -18,7 +18,7 @@ use Rattle.ssim_base.specs.Export.{result_map, export_bytes}
 use Rattle.ssim_schedule.specs.internal.Blocks.{all_entries}
 use Rattle.ssim_schedule.specs.FlightPieces.{Divided}
 use Rattle.ssim_schedule.specs.internal.Plan.{IsRefusedAs, pieces_count, plan_bytes, plan_count, plan_of, plan_records, plan_refusal}
-use Rattle.ssim_schedule.specs.ExportResult.{Refuses}
+use Rattle.ssim_schedule.specs.clauses.ExportResult.{Refuses}
 use Rattle.ssim_schedule.specs.internal.Table.{AreRising, Table, key_at, no_entry, table_days}
 use Rattle.ssim_base.specs.ReadBack as law
 use Rattle.ssim_base.specs.ReadBack.{place_of}

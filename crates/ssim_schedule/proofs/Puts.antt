@@ -16,7 +16,9 @@ use Rattle.ssim_records.specs.Trailer.{TrailerFields}
 use Rattle.ssim_records.specs.declared.record.Record.{Record}
 use Rattle.ssim_records.specs.declared.record.Record.TheVariants.{Header, Carrier, Trailer}
 use Rattle.ssim_base.specs.Timetable.{LegValue, Legs}
-use Rattle.ssim_base.specs.Export.{Piece, fill_count, frame_from, leg_records, line, numbered, pieces_records, section_bytes, tail_record, with_serial}
+use Rattle.ssim_base.specs.Export.{Piece, fill_count, leg_records, line, numbered, pieces_records}
+use Rattle.ssim_base.specs.Export.{section_bytes, tail_record, with_serial}
+use Rattle.ssim_base.specs.clauses.Export.{frame_from}
 use Rattle.ssim_schedule.specs.FlightPieces.{Divided}
 use Rattle.ssim_schedule.specs.internal.Plan.{alone_bytes, leg_lines, numbered_lines, piece_lines, pieces_count, plan_bytes, plan_count, plan_lines, plan_records, tail_lines}
 use Rattle.ssim_schedule.specs.internal.SharedLegs.{legs_count}

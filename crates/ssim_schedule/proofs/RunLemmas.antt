@@ -3,10 +3,11 @@ use Rattle.std.proofs.Common.{◌≡◌, ◌⊎◌, ℕ, zero, suc, ◌+◌, Boo
 use Rattle.std.proofs.lemmas.List.Elements.{Contains-append_cases, Contains-append_left, Contains-append_right}
 use Rattle.ssim_values.specs.Period.{DayRange}
 use Rattle.ssim_periods.specs.Calendar.{holds}
-use Rattle.ssim_periods.specs.Days.{AddsOnly, changed_by_each, changed_on, ends_of}
+use Rattle.ssim_periods.specs.clauses.Days.{AddsOnly, changed_by_each, ends_of}
+use Rattle.ssim_periods.specs.Days.{changed_on}
 use Rattle.ssim_periods.proofs.ApplyLemmas.{contains-cases, contains-head, contains-tail}
 use Rattle.ssim_base.specs.Timetable.{Days, Legs}
-use Rattle.ssim_schedule.specs.PlacedLegs.{placed_each}
+use Rattle.ssim_schedule.specs.clauses.PlacedLegs.{placed_each}
 use Rattle.ssim_schedule.specs.internal.Runs.{Run, is_run_on}
 
 neither : (a b : Bool) → (a || b) ≡ false → (a ≡ false) × (b ≡ false)

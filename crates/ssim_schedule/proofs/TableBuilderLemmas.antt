@@ -3,7 +3,8 @@ use Rattle.std.proofs.Common.{◌≡◌, ℕ, ◌+◌, Bool, true, false, nat_eq
 use Rattle.std.proofs.Common.{Option, Some, None, Contains, inl, inr, refl, sym, ap, subst, ◌∙◌}
 use Rattle.ssim_values.specs.Flight.{FlightNumber}
 use Rattle.ssim_values.specs.Period.{DayRange}
-use Rattle.ssim_periods.specs.Days.{Seen, changed_on, AddsOnly}
+use Rattle.ssim_periods.specs.clauses.Days.{Seen, AddsOnly}
+use Rattle.ssim_periods.specs.Days.{changed_on}
 use Rattle.ssim_base.specs.Timetable.{Days, Legs}
 use Rattle.ssim_base.specs.ReadBack.{place_of}
 use Rattle.ssim_schedule.specs.internal.Table.{AddsOnlyAt, Table, found, table_cuts, table_days}

@@ -1,7 +1,7 @@
 -- The order of two lists of which one has ended.
 use Rattle.std.proofs.Common.{◌≡◌, ◌∙◌, ℕ, zero, suc, ◌<◌, ◌≤◌, List, [], ◌∷◌, drop, length, ap, refl, arith}
 use Rattle.std.specs.declared.cmp.Ordering.TheVariants.{Less, Greater}
-use Rattle.ssim_schedule.specs.ItineraryOrder.{tails_cmp}
+use Rattle.ssim_schedule.specs.clauses.ItineraryOrder.{tails_cmp}
 
 none-left : (xs : List (List ℕ)) (k : ℕ) → length xs ≤ k → drop k xs ≡ []
 none-left [] zero h = refl

@@ -21,10 +21,10 @@ use Rattle.ssim_schedule.specs.internal.LegKey.{IsPlaced, name_place}
 use Rattle.ssim_schedule.specs.internal.TimetableBuilder.{IsBuilt, IsCut, LeavesOut, OpensGroup, PutsGroup, PutsLeg, TakesLeg, TakesSegment, days_with}
 use Rattle.ssim_schedule.specs.internal.WantedDates.{IsPart, is_wanted, itinerary_wanted}
 use Rattle.ssim_schedule.specs.internal.LegGroup.{Group, IsBound, StartsFrom, no_group, with_legs}
-use Rattle.ssim_schedule.specs.PlacedLegs.{placed_each}
+use Rattle.ssim_schedule.specs.clauses.PlacedLegs.{placed_each}
 use Rattle.ssim_base.specs.ReadBack.{place_of}
 use Rattle.ssim_base.proofs.Places.{same_flight-place}
-use Rattle.ssim_schedule.specs.DivisionPoints.{is_point}
+use Rattle.ssim_schedule.specs.clauses.DivisionPoints.{is_point}
 use Rattle.ssim_schedule.specs.internal.Table.{Table, table_cuts, table_days}
 use Rattle.ssim_schedule.specs.internal.TableBuilder.{table_of}
 use Rattle.ssim_schedule.specs.internal.PendingSegments.{waiting_at}

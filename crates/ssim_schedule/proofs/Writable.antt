@@ -11,7 +11,8 @@ use Rattle.ssim_base.specs.Timetable.{Days, Legs, on_day}
 use Rattle.ssim_base.specs.Export.{Piece, pieces, same_itinerary}
 use Rattle.ssim_schedule.specs.FlightPieces.{Divided}
 use Rattle.ssim_schedule.specs.internal.Plan.{HasWritableLegs, HasWritablePieces, plan_of}
-use Rattle.ssim_base.specs.ReadBack.{CanReadBack, IsTimetable, IsWritable, place_of}
+use Rattle.ssim_base.specs.clauses.ReadBack.{CanReadBack}
+use Rattle.ssim_base.specs.ReadBack.{IsTimetable, IsWritable, place_of}
 use Rattle.ssim_schedule.specs.internal.Table.{Table, table_days}
 use Rattle.ssim_base.proofs.Calendars.{at-each_day}
 use Rattle.ssim_base.proofs.Pieces.{itinerary_pieces}

@@ -1,14 +1,8 @@
-pub mod Schedule
-pub mod DivisionPoints
 pub mod ExportResult
 pub mod MessageColumns
 pub mod Effect
 pub mod Acts
-pub mod Dates
-pub mod FlightDate
-pub mod PlacedLegs
 pub mod FlightPieces
-pub mod ItineraryOrder
-pub mod ItineraryOrderLaws
+pub mod clauses
 pub mod examples
 pub mod internal

@@ -3,9 +3,10 @@
 ghost use Rattle.std.specs.Prelude.{◌≡◌, ℕ, ◌<◌, true, IfOk, OnErr, OnOk};
 ghost use Rattle.ssim_values.specs.Flight.{FlightNumber, IsFlight};
 ghost use Rattle.ssim_periods.specs.Calendar.{day_count, holds};
-ghost use Rattle.ssim_schedule.specs.Acts.{AddsPointsOf, after_sub, finding_of, itinerary_after};
+ghost use Rattle.ssim_schedule.specs.clauses.Acts.{AddsPointsOf, after_sub};
+ghost use Rattle.ssim_schedule.specs.Acts.{finding_of, itinerary_after};
 ghost use Rattle.ssim_schedule.specs.internal.ActionParts.{IsUniform, counts_by};
-ghost use Rattle.ssim_schedule.specs.Schedule.{cuts_in, days_in};
+ghost use Rattle.ssim_schedule.specs.clauses.Schedule.{cuts_in, days_in};
 ghost use Rattle.ssim_schedule.specs.internal.Table.{table_cuts, table_days};
 ghost use Rattle.ssim_base.specs.Timetable.{on_day};
 

@@ -2,10 +2,13 @@
 
 ghost use Rattle.std.specs.Prelude.{◌≡◌, ℕ, List, IfErr, OnOk, Some};
 ghost use Rattle.std.specs.Io.KnownBytes.{Appends};
-ghost use Rattle.ssim_base.specs.Export.{chapter7, frame_from};
-ghost use Rattle.ssim_schedule.specs.ExportResult.{ReadsBackBase, Refuses, RefusesBase, Writes, WritesBase};
-ghost use Rattle.ssim_base.specs.ReadBack.{CanReadBack, IsTimetable, ReadsBackFrom};
-ghost use Rattle.ssim_schedule.specs.Schedule.{days_in};
+ghost use Rattle.ssim_base.specs.Export.{chapter7};
+ghost use Rattle.ssim_base.specs.clauses.Export.{frame_from};
+ghost use Rattle.ssim_schedule.specs.clauses.ExportResult.{ReadsBackBase, Refuses, RefusesBase};
+ghost use Rattle.ssim_schedule.specs.clauses.ExportResult.{Writes, WritesBase};
+ghost use Rattle.ssim_base.specs.clauses.ReadBack.{CanReadBack};
+ghost use Rattle.ssim_base.specs.ReadBack.{IsTimetable, ReadsBackFrom};
+ghost use Rattle.ssim_schedule.specs.clauses.Schedule.{days_in};
 ghost use Rattle.ssim_schedule.specs.internal.Table.{table_days};
 ghost use Rattle.ssim_base.specs.Timetable.{days_of};
 

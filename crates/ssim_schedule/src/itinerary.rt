@@ -3,10 +3,11 @@
 ghost use Rattle.std.specs.Prelude.{◌≡◌, ◌<◌, ◌≤◌, ◌%◌, ◌^◌, ◌++◌, [], IfNone, IfOk, IfSome};
 ghost use Rattle.std.specs.Prelude.{OnOk, length, reverse};
 ghost use Rattle.ssim_base.specs.Export.{same_itinerary};
-ghost use Rattle.ssim_base.specs.ItineraryLaws.{exact_itinerary};
-ghost use Rattle.ssim_schedule.specs.ItineraryOrder.{itinerary_cmp};
-ghost use Rattle.ssim_schedule.specs.ItineraryOrderLaws.{itinerary-told_apart, itinerary_cmp_total};
-ghost use Rattle.ssim_schedule.specs.PlacedLegs.{legs_before, placed_each};
+ghost use Rattle.ssim_base.specs.clauses.ItineraryLaws.{exact_itinerary};
+ghost use Rattle.ssim_schedule.specs.clauses.ItineraryOrder.{itinerary_cmp};
+ghost use Rattle.ssim_schedule.specs.clauses.ItineraryOrderLaws.{itinerary-told_apart};
+ghost use Rattle.ssim_schedule.specs.clauses.ItineraryOrderLaws.{itinerary_cmp_total};
+ghost use Rattle.ssim_schedule.specs.clauses.PlacedLegs.{legs_before, placed_each};
 ghost use Rattle.ssim_schedule.specs.internal.SharedLegs.{legs_count};
 ghost use Rattle.ssim_schedule.specs.internal.SharedLegs.{CountsRecords, hash_of, legs_of};
 
@@ -349,7 +350,7 @@ impl Value for Itinerary {
 /// As a change, an itinerary puts its legs among those of a date, each by its leg sequence. All
 /// dates that had none before share its legs.
 impl Change<Itinerary> for Itinerary {
-    ghost use Rattle.ssim_schedule.specs.PlacedLegs.{placed_each};
+    ghost use Rattle.ssim_schedule.specs.clauses.PlacedLegs.{placed_each};
 
     ghost outcome = { placed_each };
 

@@ -2,7 +2,7 @@
 
 ghost use Rattle.std.specs.Prelude.{◌≡◌, ◌<◌, ◌^◌, IfOk, map};
 ghost use Rattle.ssim_base.specs.Export.{same_leg, same_tails};
-ghost use Rattle.ssim_schedule.specs.ItineraryOrder.{leg_cmp, tails_cmp};
+ghost use Rattle.ssim_schedule.specs.clauses.ItineraryOrder.{leg_cmp, tails_cmp};
 ghost use Rattle.ssim_schedule.specs.internal.SharedLegs.{leg_hash};
 
 use ssim_records::{LegColumns, SegmentTail};

@@ -25,7 +25,7 @@ pub struct Schedule {
 
 impl Model for Schedule {
     ghost use Rattle.ssim_base.specs.ReadBack.{IsTimetable};
-    ghost use Rattle.ssim_schedule.specs.Schedule.{Flown, flown_by, flown_code};
+    ghost use Rattle.ssim_schedule.specs.clauses.Schedule.{Flown, flown_by, flown_code};
     ghost use Rattle.ssim_schedule.specs.internal.Table.{table_days};
 
     ghost Value = { Flown };
@@ -38,7 +38,7 @@ impl Model for Schedule {
 }
 
 impl Schedule {
-    ghost use Rattle.ssim_schedule.specs.Schedule.{cuts_in, days_in};
+    ghost use Rattle.ssim_schedule.specs.clauses.Schedule.{cuts_in, days_in};
 
     /// The legs of a flight on a date of origin, by leg sequence. The list is empty if the flight
     /// does not fly on the date.

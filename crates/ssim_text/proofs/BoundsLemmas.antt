@@ -18,7 +18,10 @@ use Rattle.ssim_text.specs.Message.{MessageValue}
 use Rattle.ssim_text.specs.Grammar.{Part, OriginatorPart, KindPart, ModePart, ReferencePart, ActionPart, FlightPart, DatedFlightPart, PeriodPart, EquipmentPart, LegPart, SegmentPart, Divider, FreePart, Spells, flight_parts, body_parts, sub_parts, later_parts, subs_parts, free_parts}
 use Rattle.ssim_text.specs.Left.{lines_left, pieces, texts}
 use Rattle.ssim_text.specs.Spelling.{SpellsMessage}
-use Rattle.ssim_text.specs.Bounds.{IsLegBounded, IsSegmentBounded, IsEquipmentBounded, AreNewLegsBounded, IsActionBounded, AreSubsBounded, IsCreatorBounded, IsReferenceBounded, AreFreeLinesBounded}
+use Rattle.ssim_text.specs.clauses.Bounds.{IsLegBounded, IsSegmentBounded, IsEquipmentBounded}
+use Rattle.ssim_text.specs.clauses.Bounds.{AreNewLegsBounded, IsActionBounded, AreSubsBounded}
+use Rattle.ssim_text.specs.clauses.Bounds.{IsCreatorBounded, IsReferenceBounded}
+use Rattle.ssim_text.specs.clauses.Bounds.{AreFreeLinesBounded}
 use Rattle.ssim_text.proofs.Runs.{none_some, some_same}
 use Rattle.ssim_text.proofs.LinesKept.{IsLine, all_drop, line_from, left_lines}
 use Rattle.ssim_text.proofs.Words.{carried, only_if, line_after, below_three, digits_sound}

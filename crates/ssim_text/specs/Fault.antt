@@ -1,5 +1,5 @@
--- The numbers, names and lines of faults.
-use Rattle.std.specs.Prelude.{ℕ, Option, Some, None, List, codes}
+-- The numbers and names of faults.
+use Rattle.std.specs.Prelude.{ℕ, List, codes}
 use Rattle.ssim_text.specs.declared.fault.Fault.{Fault}
 use Rattle.ssim_text.specs.declared.fault.Fault.TheVariants.{BadKind, BadReference, BadAction, BadFlight}
 use Rattle.ssim_text.specs.declared.fault.Fault.TheVariants.{BadPeriod, BadEquipment, BadLeg, Extra, TooMany}
@@ -42,8 +42,3 @@ text_fault_number (Refused fault line) = fault_number fault
 abbrev pub text_fault_name : TextFault → List ℕ
 text_fault_name Memory = codes "Memory"
 text_fault_name (Refused fault line) = fault_name fault
-
--- the line that a text's fault names, if it names one
-abbrev pub text_fault_line : TextFault → Option ℕ
-text_fault_line Memory = None
-text_fault_line (Refused fault line) = Some line

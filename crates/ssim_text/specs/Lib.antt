@@ -6,9 +6,9 @@ pub mod Grammar
 pub mod Fault
 pub mod Machine
 pub mod Left
-pub mod Bounds
 pub mod Canonical
 pub mod Spelling
+pub mod clauses
 pub mod examples
 pub mod Decoder
 pub mod Reference

@@ -1,6 +1,7 @@
 //! Why a text is refused.
 ghost use Rattle.std.specs.Prelude.{◌≡◌};
-ghost use Rattle.ssim_text.specs.Fault.{fault_name, fault_number, text_fault_line, text_fault_name};
+ghost use Rattle.ssim_text.specs.Fault.{fault_name, fault_number, text_fault_name};
+ghost use Rattle.ssim_text.specs.clauses.Fault.{text_fault_line};
 ghost use Rattle.ssim_text.specs.Fault.{text_fault_number};
 
 use std::alloc::AllocError;

@@ -3,7 +3,8 @@ ghost use Rattle.std.specs.Prelude.{◌≡◌, ◌↔◌, IfOk, IsTrue};
 ghost use Rattle.ssim_text.specs.Message.{begun, with_sub, with_free};
 ghost use Rattle.ssim_text.specs.Canonical.{canonical};
 ghost use Rattle.ssim_text.specs.Grammar.{IsShape};
-ghost use Rattle.ssim_text.specs.Bounds.{AreSubsBounded, IsReferenceBounded, AreFreeLinesBounded};
+ghost use Rattle.ssim_text.specs.clauses.Bounds.{AreSubsBounded, IsReferenceBounded};
+ghost use Rattle.ssim_text.specs.clauses.Bounds.{AreFreeLinesBounded};
 ghost use Rattle.ssim_text.specs.Spelling.{SpellsMessage};
 
 use crate::action::Sub;

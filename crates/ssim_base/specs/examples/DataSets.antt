@@ -7,7 +7,8 @@ use Rattle.ssim_values.specs.declared.time_mode.TimeMode.TheVariants.{Utc}
 use Rattle.ssim_columns.specs.declared.field.end_code.EndCode.TheVariants as code
 use Rattle.ssim_base.specs.Timetable.{LegValue, itinerary}
 use Rattle.ssim_base.specs.Export.{flight_at}
-use Rattle.ssim_base.specs.ReadBack.{place_of, section_items}
+use Rattle.ssim_base.specs.ReadBack.{place_of}
+use Rattle.ssim_base.specs.clauses.ReadBack.{section_items}
 use Rattle.ssim_base.specs.Base.{Done, first_refusal, notes_of, end_of}
 use Rattle.ssim_base.specs.declared.fault.BaseFault.TheVariants.{Refused}
 use Rattle.ssim_base.specs.declared.fault.BaseRefusal.TheVariants as refused

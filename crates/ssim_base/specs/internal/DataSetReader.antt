@@ -1,7 +1,7 @@
 -- What is known of the records of a data set so far.
 use Rattle.std.specs.Prelude.{◌≡◌, ℕ, ◌+◌, not, nat_eq, List, [], ◌++◌, reverse, length, map, Option, None}
 use Rattle.std.specs.List.{All}
-use Rattle.ssim_records.specs.Reading.{Reading}
+use Rattle.ssim_records.specs.clauses.Reading.{Reading}
 use Rattle.ssim_records.specs.Record.{IsRecord, serial_of}
 use Rattle.ssim_records.specs.declared.record.Record.{Record}
 use Rattle.ssim_base.specs.Base.{Ending, Done, kept_all, first_refusal, note_if, check_notes, notes_of}

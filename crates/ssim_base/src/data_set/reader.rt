@@ -1,12 +1,13 @@
 //! The reading of a data set, record by record, with the notes on it.
 
 ghost use Rattle.std.specs.Prelude.{◌≡◌, ◌+◌, ◌<◌, ◌^◌, ◌∷◌, ◌++◌, [], false, true, List, IfErr, IfOk, OnOk};
-ghost use Rattle.ssim_records.specs.Blocks.{Fetches};
+ghost use Rattle.ssim_records.specs.clauses.Blocks.{Fetches};
 ghost use Rattle.ssim_records.specs.Record.{IsRecord, serial_of};
 ghost use Rattle.ssim_records.specs.declared.record.Record.{Record};
 ghost use Rattle.ssim_base.specs.internal.DataSetReader.{HasRead, unread};
-ghost use Rattle.ssim_base.specs.Reading.{Came, IsRecordAfter, RefusesByRecord, RefusesReading};
-ghost use Rattle.ssim_base.specs.Reading.{is_of_bytes};
+ghost use Rattle.ssim_base.specs.clauses.Reading.{Came, IsRecordAfter, RefusesByRecord};
+ghost use Rattle.ssim_base.specs.clauses.Reading.{RefusesReading};
+ghost use Rattle.ssim_base.specs.clauses.Reading.{is_of_bytes};
 ghost use Rattle.ssim_base.specs.internal.Reading.{Refuses};
 
 use crate::data_set::acceptance::Acceptance;

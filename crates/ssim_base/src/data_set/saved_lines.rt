@@ -1,9 +1,10 @@
 //! The records of a base as they are saved: each as it is written, followed by LF.
 
 ghost use Rattle.std.specs.Prelude.{◌≡◌, ◌≤◌, ◌↔◌, ℕ, List, [], IfErr, IfNone, IfOk, IfSome, IsTrue, Ok, OnOk, false, length, take, true};
-ghost use Rattle.ssim_records.specs.InputBuffer.{Gives, Stops, Uses, ahead};
+ghost use Rattle.ssim_records.specs.clauses.InputBuffer.{Gives, Stops, Uses, ahead};
 ghost use Rattle.ssim_records.specs.declared.record.Record.{Record};
-ghost use Rattle.ssim_base.specs.SavedBase.{IsAfterUsed, IsBare, IsBaseRecords, RefusesLines, StopsSaved, saved};
+ghost use Rattle.ssim_base.specs.clauses.SavedBase.{IsAfterUsed, RefusesLines, StopsSaved};
+ghost use Rattle.ssim_base.specs.SavedBase.{IsBare, IsBaseRecords, saved};
 ghost use Rattle.ssim_base.specs.internal.SavedLines.{IsLine, IsLineOf};
 
 use crate::data_set::DataSet;

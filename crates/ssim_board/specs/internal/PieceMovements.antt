@@ -6,7 +6,8 @@ use Rattle.ssim_values.specs.Flight.{FlightNumber}
 use Rattle.ssim_periods.specs.Calendar.{holds}
 use Rattle.ssim_base.specs.Export.{Piece}
 use Rattle.ssim_schedule.specs.FlightPieces.{Divided}
-use Rattle.ssim_board.specs.Movements.{first_date, last_date, leg_movements}
+use Rattle.ssim_board.specs.clauses.Movements.{first_date, last_date}
+use Rattle.ssim_board.specs.Movements.{leg_movements}
 use Rattle.ssim_board.specs.declared.board.Board.{Board}
 use Rattle.ssim_board.specs.declared.movement.Movement.{Movement}
 

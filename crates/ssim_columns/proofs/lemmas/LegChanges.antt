@@ -11,7 +11,9 @@ use Rattle.ssim_columns.specs.declared.leg.leg_parts.LegStations.{LegStations}
 use Rattle.ssim_columns.specs.declared.leg.leg_parts.LegTimes.{LegTimes}
 use Rattle.ssim_columns.specs.Columns.{columns, fault_in, filled, is_carried}
 use Rattle.ssim_columns.specs.Leg.{AreLegColumns, leg_columns, spread}
-use Rattle.ssim_columns.specs.LegParts.{AreTimes, ChangesEquipment, ChangesTimes, EquipmentFields, date_variations, station_columns, with_equipment, with_times}
+use Rattle.ssim_columns.specs.clauses.LegParts.{AreTimes, ChangesEquipment, ChangesTimes}
+use Rattle.ssim_columns.specs.LegParts.{EquipmentFields, date_variations, station_columns}
+use Rattle.ssim_columns.specs.LegParts.{with_equipment, with_times}
 use Rattle.ssim_columns.proofs.lemmas.CarriedTexts.{carried_append, carried_within, filled_carried, length_station, passenger_stands, station_stands, time_stands, two_carried, variation_stands}
 use Rattle.ssim_columns.proofs.lemmas.Overlay.{Fit, Write, all_lie, glued, length_written, slice_cut, stays, written}
 use Rattle.ssim_columns.proofs.lemmas.OwnColumns.{own_middle, own_service, own_tail}

@@ -11,7 +11,7 @@ use Rattle.ssim_columns.specs.declared.field.Field.{Field}
 use Rattle.ssim_columns.specs.declared.field.Kind.TheVariants.{Carried, Dates, Days, Digits}
 use Rattle.ssim_columns.specs.Numbers.{digits_of, digits}
 use Rattle.ssim_columns.specs.Columns.{columns, field, fault_in, is_carried, end_from, EachIsValid}
-use Rattle.ssim_columns.specs.Heads.{HasDigits}
+use Rattle.ssim_columns.specs.clauses.Heads.{HasDigits}
 use Rattle.ssim_columns.specs.Leg.{Name, LegFields, IsLeg, SpellsLeg, middle_table, name_table, own_columns, spread, leg_texts, end_text, written_leg}
 use Rattle.ssim_columns.proofs.lemmas.Days.{length_day, length_end, length_places, end_from-end_text, end_from-one_text}
 use Rattle.ssim_columns.proofs.lemmas.Names.{one_name, NameLies, name_digits, name_lies, spells_name, name_stands, length_airline}

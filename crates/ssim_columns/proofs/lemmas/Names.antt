@@ -11,7 +11,7 @@ use Rattle.ssim_values.specs.Flight.{is_suffix}
 use Rattle.ssim_columns.specs.declared.field.Kind.TheVariants.{Suffix, AirlineCode}
 use Rattle.ssim_columns.specs.Numbers.{digits_of, from_one, number_of, sequence_of, digits}
 use Rattle.ssim_columns.specs.Columns.{columns, fault_in, EachIsValid}
-use Rattle.ssim_columns.specs.Heads.{HasDigits}
+use Rattle.ssim_columns.specs.clauses.Heads.{HasDigits}
 use Rattle.ssim_columns.specs.Leg.{Name, SpellsName, IsName, name_table}
 use Rattle.ssim_columns.proofs.lemmas.Choices.{pick}
 use Rattle.ssim_columns.proofs.lemmas.Numbers.{digits_alone, digits_of-digits, digits_of-written, number_of-digits, sequence_of-digits}

@@ -6,7 +6,7 @@ use Rattle.std.specs.List.{concat}
 use Rattle.std.proofs.lemmas.Bool.Decides.{nat_tests}
 use Rattle.std.proofs.Math.Seq.{take-add, take-length}
 use Rattle.std.proofs.lemmas.List.{drop_all, drop_at, drop-drop, length-append, length-drop, length-take-le, take-append-drop, take_at, append-nil}
-use Rattle.ssim_columns.specs.Columns.{over}
+use Rattle.ssim_columns.specs.clauses.Columns.{over}
 use Rattle.ssim_columns.proofs.lemmas.Choices.{pick}
 use Rattle.ssim_columns.proofs.lemmas.Places.{Placed, part_at, sum_of}
 use Rattle.ssim_columns.proofs.lemmas.Rows.{both_true}

@@ -6,7 +6,9 @@ use Rattle.std.proofs.lemmas.Bool.Decides.{nat_tests}
 use Rattle.ssim_columns.specs.declared.field.Field.{Field}
 use Rattle.ssim_columns.specs.declared.field.Kind.TheVariants.{Carried, Digits}
 use Rattle.ssim_columns.specs.Columns.{field, columns, EachIsValid}
-use Rattle.ssim_columns.specs.Leg.{leg_table, middle_table, own_table, own_columns, spread, leg_columns, AreLegColumns, is_own}
+use Rattle.ssim_columns.specs.Leg.{leg_table, middle_table, own_table, own_columns, spread}
+use Rattle.ssim_columns.specs.Leg.{leg_columns, AreLegColumns}
+use Rattle.ssim_columns.specs.clauses.Leg.{is_own}
 use Rattle.ssim_columns.specs.internal.LegColumns.{IsAfter}
 use Rattle.ssim_columns.proofs.lemmas.Slices.{length_slice, slice_in}
 use Rattle.ssim_columns.proofs.lemmas.Places.{all_placed}

@@ -8,7 +8,10 @@ use Rattle.std.specs.Prelude.{is_some, option_map, IsTrue}
 use Rattle.std.proofs.lemmas.Bool.Decides.{nat_tests}
 use Rattle.ssim_values.specs.Clock.{clock_of}
 use Rattle.ssim_columns.specs.Numbers.{is_blank}
-use Rattle.ssim_columns.specs.Columns.{columns, is_carried, is_printed, passenger_time_of, place_of_other, fault_in, first_fault, field_fault, column_after, or_else, unless, EachIsValid}
+use Rattle.ssim_columns.specs.Columns.{columns, is_carried, passenger_time_of, place_of_other}
+use Rattle.ssim_columns.specs.Columns.{fault_in, first_fault, field_fault, column_after, or_else}
+use Rattle.ssim_columns.specs.Columns.{unless, EachIsValid}
+use Rattle.ssim_columns.specs.clauses.Columns.{is_printed}
 use Rattle.ssim_columns.proofs.lemmas.Choices.{pick}
 use Rattle.ssim_columns.proofs.lemmas.Slices.{slice_in}
 

@@ -6,10 +6,12 @@ use Rattle.std.proofs.lemmas.List.{take-append-drop, append-nil, length-drop, le
 use Rattle.ssim_columns.specs.declared.field.Kind.TheVariants.{Carried, Digits}
 use Rattle.ssim_columns.specs.Numbers.{digits_of, digits}
 use Rattle.ssim_columns.specs.Columns.{columns, field, fault_in, is_carried, EachIsValid}
-use Rattle.ssim_columns.specs.Heads.{HasDigits}
+use Rattle.ssim_columns.specs.clauses.Heads.{HasDigits}
 use Rattle.ssim_columns.specs.Leg.{Name, name_table}
 use Rattle.ssim_columns.specs.declared.field.Field.{Field}
-use Rattle.ssim_columns.specs.Segment.{SegmentFields, IsSegment, IsTail, SpellsSegment, segment_table, segment_texts, tail_of, spread_tail, tail_columns, written_segment}
+use Rattle.ssim_columns.specs.Segment.{SegmentFields, IsSegment, IsTail, SpellsSegment}
+use Rattle.ssim_columns.specs.Segment.{segment_table, segment_texts, tail_of, written_segment}
+use Rattle.ssim_columns.specs.clauses.Segment.{spread_tail, tail_columns}
 use Rattle.std.specs.Bool.{Decides}
 use Rattle.std.specs.Str.{bytes_eq}
 use Rattle.std.proofs.lemmas.Bool.Decides.{Decides-and, Decides-eqb}

@@ -9,7 +9,8 @@ ghost use Rattle.ssim_values.specs.Airline.{is_airline};
 ghost use Rattle.ssim_values.specs.Flight.{is_suffix};
 ghost use Rattle.ssim_columns.specs.declared.field.Kind.TheVariants.{Suffix, AirlineCode, Carried, Days, Number, Sequence, Digits, Dates, Date};
 ghost use Rattle.ssim_columns.specs.Numbers.{number_of, sequence_of, digits_of};
-ghost use Rattle.ssim_columns.specs.Columns.{columns, is_carried, fault_in, end_from, AreColumns};
+ghost use Rattle.ssim_columns.specs.Columns.{columns, is_carried, fault_in, end_from};
+ghost use Rattle.ssim_columns.specs.clauses.Columns.{AreColumns};
 ghost use Rattle.ssim_columns.specs.Leg.{IsEnd};
 
 use crate::field::{Field, day_of, days_of, end_from};

@@ -5,9 +5,13 @@ ghost use Rattle.std.specs.Str.{bytes_eq};
 ghost use Rattle.ssim_values.specs.Clock.{clock_of};
 ghost use Rattle.ssim_columns.specs.declared.field.Kind.TheVariants.{StationCode, Time, PassengerTime, UtcVariation};
 ghost use Rattle.ssim_columns.specs.Columns.{fault_in, is_carried, passenger_time_of, utc_variation_of, first_fault, EachIsValid};
-ghost use Rattle.ssim_columns.specs.Leg.{AreLegColumns, four_bytes, is_own, leg_columns, leg_table, own_table, own_columns, quick_hash, spread, three_bytes};
+ghost use Rattle.ssim_columns.specs.Leg.{AreLegColumns, leg_columns, leg_table, own_table};
+ghost use Rattle.ssim_columns.specs.Leg.{own_columns, spread};
+ghost use Rattle.ssim_columns.specs.clauses.Leg.{four_bytes, is_own, quick_hash, three_bytes};
 ghost use Rattle.ssim_columns.specs.internal.LegColumns.{IsAfter};
-ghost use Rattle.ssim_columns.specs.LegParts.{ChangesEquipment, ChangesTimes, equipment_fields, new_leg, with_equipment, with_times};
+ghost use Rattle.ssim_columns.specs.clauses.LegParts.{ChangesEquipment, ChangesTimes};
+ghost use Rattle.ssim_columns.specs.clauses.LegParts.{equipment_fields};
+ghost use Rattle.ssim_columns.specs.LegParts.{new_leg, with_equipment, with_times};
 
 use crate::field::{Field, clock_of, first_fault_of, passenger_time_of, utc_variation_of};
 use crate::leg::leg_fields::{

@@ -3,7 +3,7 @@
 ghost use Rattle.std.specs.Prelude.{◌≡◌, Some, IfOk, IfErr, IfSome};
 ghost use Rattle.ssim_columns.specs.Columns.{first_fault, EachIsValid};
 ghost use Rattle.ssim_columns.specs.Leg.{leg_table};
-ghost use Rattle.ssim_columns.specs.Heads.{IsLegHead};
+ghost use Rattle.ssim_columns.specs.clauses.Heads.{IsLegHead};
 
 use crate::field::columns::{days_at, first_day_at, last_day_at, serial_at};
 use crate::field::{first_fault_of, middle_is_carried};

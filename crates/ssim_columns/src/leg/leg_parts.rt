@@ -3,7 +3,9 @@
 
 ghost use Rattle.std.specs.Prelude.{◌≡◌, ◌≤◌, ◌+◌, ◌%◌, IsTrue};
 ghost use Rattle.ssim_values.specs.Station.{is_station};
-ghost use Rattle.ssim_columns.specs.LegParts.{AreTimes, ChangesEquipment, ChangesTimes, equipment_fields, station_columns, with_equipment, with_times};
+ghost use Rattle.ssim_columns.specs.clauses.LegParts.{AreTimes, ChangesEquipment, ChangesTimes};
+ghost use Rattle.ssim_columns.specs.clauses.LegParts.{equipment_fields};
+ghost use Rattle.ssim_columns.specs.LegParts.{station_columns, with_equipment, with_times};
 
 use crate::leg::leg_fields::{
     AIRCRAFT_ARRIVAL, AIRCRAFT_DEPARTURE, AIRCRAFT_TYPE, BEFORE_MIDDLE, BEFORE_TAIL,

@@ -2,7 +2,7 @@
 
 ghost use Rattle.std.specs.Prelude.{◌≡◌, ◌<◌, ◌↔◌, IsTrue, length, slice_index};
 ghost use Rattle.std.specs.List.{concat};
-ghost use Rattle.ssim_columns.specs.Heads.{HasDigits};
+ghost use Rattle.ssim_columns.specs.clauses.Heads.{HasDigits};
 ghost use Rattle.ssim_columns.specs.Leg.{AreLegColumns, exported_leg, name_texts, written_leg};
 ghost use Rattle.ssim_columns.specs.Segment.{IsTail, exported_segment, written_segment};
 

@@ -2,7 +2,8 @@
 
 ghost use Rattle.std.specs.Prelude.{◌≡◌};
 ghost use Rattle.std.specs.List.{concat};
-ghost use Rattle.ssim_columns.specs.Leg.{dates_texts, end_text, period_texts};
+ghost use Rattle.ssim_columns.specs.clauses.Leg.{dates_texts, period_texts};
+ghost use Rattle.ssim_columns.specs.Leg.{end_text};
 
 use ssim_values::{Day, DayMask, Period};
 use std::marker::Model;
@@ -40,7 +41,7 @@ impl Model for PeriodText {
     ghost use Rattle.std.specs.Prelude.{◌≡◌};
     ghost use Rattle.std.specs.List.{concat};
     ghost use Rattle.ssim_values.specs.Period.{DayRange};
-    ghost use Rattle.ssim_columns.specs.Leg.{period_texts};
+    ghost use Rattle.ssim_columns.specs.clauses.Leg.{period_texts};
 
     ghost Value = { DayRange };
 

@@ -3,7 +3,7 @@
 ghost use Rattle.std.specs.Prelude.{◌≡◌, Some, IfOk, IfErr, IfSome};
 ghost use Rattle.ssim_columns.specs.Columns.{first_fault, EachIsValid};
 ghost use Rattle.ssim_columns.specs.Segment.{segment_table};
-ghost use Rattle.ssim_columns.specs.Heads.{IsSegmentHead};
+ghost use Rattle.ssim_columns.specs.clauses.Heads.{IsSegmentHead};
 
 use crate::field::columns::serial_at;
 use crate::field::{Field, Kind, first_fault_of, middle_is_carried};

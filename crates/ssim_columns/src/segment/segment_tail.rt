@@ -3,7 +3,8 @@
 ghost use Rattle.std.specs.Prelude.{◌≡◌, ◌≤◌, ◌+◌, ◌↔◌, length, replicate, IsSome, IfSome};
 ghost use Rattle.std.specs.Str.{bytes_eq};
 ghost use Rattle.ssim_columns.specs.Columns.{EachIsValid};
-ghost use Rattle.ssim_columns.specs.Segment.{IsTail, tail_of, tail_columns, new_tail, segment_table};
+ghost use Rattle.ssim_columns.specs.Segment.{IsTail, tail_of, new_tail, segment_table};
+ghost use Rattle.ssim_columns.specs.clauses.Segment.{tail_columns};
 
 use crate::field::are_carried;
 use crate::text::array::bytes_of;

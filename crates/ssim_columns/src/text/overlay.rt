@@ -2,7 +2,8 @@
 
 ghost use Rattle.std.specs.Prelude.{◌≡◌, ◌≤◌, ◌+◌, ◌++◌, ℕ, List, length, take};
 ghost use Rattle.std.specs.List.{flat_map};
-ghost use Rattle.ssim_columns.specs.Columns.{carried, filled, over};
+ghost use Rattle.ssim_columns.specs.Columns.{carried, filled};
+ghost use Rattle.ssim_columns.specs.clauses.Columns.{over};
 
 /// Writes the parts one after another.
 pub fn join(out: &mut [u8], parts: &[&[u8]])

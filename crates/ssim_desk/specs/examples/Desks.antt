@@ -25,7 +25,8 @@ use Rattle.ssim_text.specs.declared.reference.Reference.{Reference}
 use Rattle.ssim_values.specs.Flight.{FlightNumber}
 use Rattle.ssim_held.specs.Entries.{Entry}
 use Rattle.ssim_desk.specs.Meaning.{Timetable, after_subs}
-use Rattle.ssim_desk.specs.Desk.{finding_lines, is_desk_point, is_flight_named, point_bound}
+use Rattle.ssim_desk.specs.Desk.{finding_lines}
+use Rattle.ssim_desk.specs.clauses.Desk.{is_desk_point, is_flight_named, point_bound}
 
 -- ---- meaning
 

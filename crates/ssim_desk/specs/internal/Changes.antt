@@ -7,14 +7,15 @@ use Rattle.std.specs.Prelude.{Vec, vec_capacity, vec_len}
 use Rattle.std.specs.List.{flat_map, list_any}
 use Rattle.ssim_periods.specs.Days.{each_day}
 use Rattle.ssim_base.specs.{BaseSeen.BaseSeen, Stations.Row, Timetable.is_among}
-use Rattle.ssim_schedule.specs.{Schedule.{Flown, cuts_in, days_in}}
+use Rattle.ssim_schedule.specs.clauses.Schedule.{Flown, cuts_in, days_in}
 use Rattle.ssim_base.specs.declared.sub_message.ResolvedSub.{ResolvedSub}
 use Rattle.ssim_text.specs.Message.{MessageValue}
 use Rattle.ssim_values.specs.Flight.{FlightNumber, IsFlight}
 use Rattle.ssim_held.specs.Held.{DeskState, Holds, Says}
 use Rattle.ssim_held.specs.Entries.{AreEntries, DeskSeen, Entry, IsEntry, map_of, state_of}
-use Rattle.ssim_held.specs.Ordered.{Belongs}
-use Rattle.ssim_desk.specs.{Desk.{AreDeskPoints, is_sub_point}, Meaning.{Timetable, left_by}}
+use Rattle.ssim_held.specs.clauses.Ordered.{Belongs}
+use Rattle.ssim_desk.specs.clauses.Desk.{AreDeskPoints, is_sub_point}
+use Rattle.ssim_desk.specs.Meaning.{Timetable, left_by}
 use Rattle.ssim_desk.specs.{Steps.IsUnion, declared.schedules.Schedules.Schedules}
 use Rattle.ssim_desk.specs.declared.offer.Offer.{Offer}
 use Rattle.ssim_desk.specs.declared.offer.Offer.TheVariants.{Known, New}

@@ -4,7 +4,8 @@ use Rattle.std.specs.Cmp.Lexicographic.{slice_cmp}
 use Rattle.std.specs.Ordering.{nat_cmp}
 use Rattle.std.specs.declared.cmp.Ordering.{Ordering}
 use Rattle.std.specs.declared.cmp.Ordering.TheVariants.{Less, Equal, Greater}
-use Rattle.ssim_values.specs.Flight.{FlightNumber, flight_order}
+use Rattle.ssim_values.specs.Flight.{FlightNumber}
+use Rattle.ssim_values.specs.clauses.Flight.{flight_order}
 use Rattle.ssim_base.specs.Export.{Piece}
 use Rattle.ssim_schedule.specs.FlightPieces.{Divided}
 use Rattle.ssim_difference.specs.Differences.{Compared, differs}

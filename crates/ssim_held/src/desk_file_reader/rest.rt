@@ -2,8 +2,8 @@
 
 ghost use Rattle.std.specs.Prelude.{◌≡◌, ◌≤◌, [], IfErr, IfOk, OnOk};
 ghost use Rattle.std.specs.Io.KnownBytes.{IsAtEnd};
-ghost use Rattle.ssim_records.specs.InputBuffer.{Gives, Uses};
-ghost use Rattle.ssim_base.specs.SavedBase.{StopsSaved};
+ghost use Rattle.ssim_records.specs.clauses.InputBuffer.{Gives, Uses};
+ghost use Rattle.ssim_base.specs.clauses.SavedBase.{StopsSaved};
 ghost use Rattle.ssim_held.specs.internal.DeskFileReader.{IsNotInvalid};
 
 use ssim_base::SavedFault;

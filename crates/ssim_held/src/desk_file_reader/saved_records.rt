@@ -2,9 +2,10 @@
 
 ghost use Rattle.std.specs.Prelude.{◌≡◌, ◌++◌, ◌∷◌, [], ◌<◌, ◌^◌, List, ℕ, codes, length};
 ghost use Rattle.std.specs.Prelude.{IfErr, IfNone, IfOk, IfSome, OnOk, Some};
-ghost use Rattle.ssim_records.specs.InputBuffer.{Gives, Uses, ahead};
+ghost use Rattle.ssim_records.specs.clauses.InputBuffer.{Gives, Uses, ahead};
 ghost use Rattle.ssim_records.specs.declared.record.Record.{Record};
-ghost use Rattle.ssim_base.specs.SavedBase.{IsBaseRecords, StopsSaved, saved};
+ghost use Rattle.ssim_base.specs.SavedBase.{IsBaseRecords, saved};
+ghost use Rattle.ssim_base.specs.clauses.SavedBase.{StopsSaved};
 ghost use Rattle.ssim_text.specs.Bytes.{from};
 ghost use Rattle.ssim_held.specs.File.{counted, records_part};
 ghost use Rattle.ssim_held.specs.internal.DeskFileReader.{IfInvalid, IsNotInvalid};

@@ -2,7 +2,7 @@
 
 ghost use Rattle.std.specs.Prelude.{◌≡◌, ◌↔◌, ◌++◌, List, ℕ, IfErr, IfNone, IfOk, IfSome, IsTrue};
 ghost use Rattle.std.specs.Prelude.{OnOk};
-ghost use Rattle.ssim_records.specs.InputBuffer.{Gives, Stops, Uses, ahead};
+ghost use Rattle.ssim_records.specs.clauses.InputBuffer.{Gives, Stops, Uses, ahead};
 ghost use Rattle.ssim_text.specs.Values.{no_originator};
 ghost use Rattle.ssim_held.specs.internal.DeskFileReader.{IsOf, first_line};
 ghost use Rattle.ssim_held.specs.declared.desk_file_reader.version.FileVersion.{FileVersion};

@@ -5,7 +5,8 @@ use Rattle.std.specs.List.Sorted.{IsStrictlyIncreasing}
 use Rattle.ssim_values.specs.Period.{DayRange}
 use Rattle.ssim_periods.specs.Calendar.{day_count, holds, slot}
 use Rattle.ssim_periods.specs.Cover.{cover}
-use Rattle.ssim_periods.specs.Days.{Seen, changed_by_each, each_day, ends_of}
+use Rattle.ssim_periods.specs.clauses.Days.{Seen, changed_by_each, ends_of}
+use Rattle.ssim_periods.specs.Days.{each_day}
 use Rattle.ssim_periods.specs.Pieces.{held_on}
 
 -- what contracts see of a list of days that grows at both ends: the days, and for how many more

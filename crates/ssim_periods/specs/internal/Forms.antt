@@ -1,5 +1,5 @@
 -- The two forms in which the values of days are kept.
-use Rattle.ssim_periods.specs.Days.{Seen}
+use Rattle.ssim_periods.specs.clauses.Days.{Seen}
 use Rattle.ssim_periods.specs.declared.periods.Form.{Form}
 use Rattle.ssim_periods.specs.declared.periods.Form.TheVariants.{Apart, Rows}
 

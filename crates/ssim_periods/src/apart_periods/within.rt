@@ -1,7 +1,8 @@
 //! A change of days of which a list's periods hold some.
 ghost use Rattle.std.specs.Prelude.{◌≡◌, ◌≢◌, ◌⊎◌, ◌&&◌, ◌∷◌, ℕ, ◌+◌, ◌<◌, ◌≤◌, ◌++◌, List, [], true, nat_eq, length, slice_index_or, vec_len, IfOk, OnOk, OnErr, IsTrue};
 ghost use Rattle.std.specs.List.Sorted.{IsStrictlyIncreasing};
-ghost use Rattle.ssim_values.specs.Period.{DayRange, IsPeriod};
+ghost use Rattle.ssim_values.specs.Period.{DayRange};
+ghost use Rattle.ssim_values.specs.clauses.Period.{IsPeriod};
 ghost use Rattle.ssim_periods.specs.Calendar.{day_count, holds};
 ghost use Rattle.ssim_periods.specs.Days.{counts_on, each_day};
 ghost use Rattle.ssim_periods.specs.Pieces.{held_on};

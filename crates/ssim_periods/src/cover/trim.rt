@@ -1,6 +1,6 @@
 //! The cover of one period's days: the period itself, trimmed to the days that it holds.
 ghost use Rattle.std.specs.Prelude.{◌≡◌, ℕ, ◌+◌, ◌-◌, ◌%◌, ◌<◌, ◌≤◌, ◌&&◌, false, true, nat_lt, [], ◌∷◌, slice_index_or, IfSome, IfNone, IsTrue};
-ghost use Rattle.ssim_values.specs.Period.{IsPeriod};
+ghost use Rattle.ssim_values.specs.clauses.Period.{IsPeriod};
 ghost use Rattle.ssim_periods.specs.internal.Apart.{weekdays_within};
 ghost use Rattle.ssim_periods.specs.Calendar.{day_count, holds, slot};
 ghost use Rattle.ssim_periods.specs.Cover.{cover, first_where};

@@ -1,7 +1,7 @@
 -- The summary of a data set, and errors of a data set that are not of its bytes.
 use Rattle.std.specs.Prelude.{◌≡◌, ℕ, List, Option, Some, None}
 use Rattle.ssim_records.specs.declared.fault.RecordFault.TheVariants as record_fault
-use Rattle.ssim_base.specs.Summary.{IsSummary}
+use Rattle.ssim_base.specs.clauses.Summary.{IsSummary}
 use Rattle.ssim_base.specs.declared.fault.BaseFault.{BaseFault}
 use Rattle.ssim_base.specs.declared.fault.BaseFault.TheVariants as base
 use Rattle.ssim_base.specs.declared.summary.Summary.{Summary}

@@ -2,7 +2,7 @@
 use Rattle.std.specs.Prelude.{ℕ, List, IfErr, OnOk, Option, Result}
 use Rattle.ssim_values.specs.Flight.{FlightNumber}
 use Rattle.ssim_records.specs.declared.record.Record.{Record}
-use Rattle.ssim_schedule.specs.ExportResult.{ReadsBackBase, RefusesBase, WritesBase}
+use Rattle.ssim_schedule.specs.clauses.ExportResult.{ReadsBackBase, RefusesBase, WritesBase}
 use Rattle.ssim_base.specs.Timetable.{Days}
 use Rattle.ssim_schedule.specs.declared.export.ExportFault.{ExportFault}
 use Rattle.ssim_program.specs.Acts.{prints}

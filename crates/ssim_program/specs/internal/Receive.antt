@@ -2,7 +2,7 @@
 use Rattle.std.specs.Prelude.{◌≡◌, ℕ, List, [], ◌∷◌, ◌++◌, Option}
 use Rattle.std.specs.List.{count_by, flat_map}
 use Rattle.ssim_base.specs.Export.{line}
-use Rattle.ssim_mailbox.specs.Mail.{mail_of}
+use Rattle.ssim_mailbox.specs.clauses.Mail.{mail_of}
 use Rattle.ssim_held.specs.Entries.{AreRising, DeskSeen}
 use Rattle.ssim_command_line.specs.Line.{Text}
 use Rattle.ssim_program.specs.Desks.{ReadsDesk}

@@ -3,7 +3,6 @@ use Rattle.std.specs.Prelude.{◌≡◌, ◌⊎◌, ℕ, List, [], ◌∷◌, �
 use Rattle.std.specs.Fmt.{decimal}
 use Rattle.ssim_values.specs.Designator.{designator_text}
 use Rattle.ssim_values.specs.Fault.{fault_name, fault_number, memory_name}
-use Rattle.ssim_values.specs.declared.fault.Fault.{Fault}
 use Rattle.ssim_base.specs.Base.{base_fault_number}
 use Rattle.ssim_base.specs.Fault.{base_fault_name, base_fault_place, station_fault_name, station_fault_place}
 use Rattle.ssim_schedule.specs.ExportResult.{export_fault_name, export_fault_number, export_fault_place}
@@ -115,10 +114,6 @@ abbrev pub refusal_text : Refusal → List ℕ
 refusal_text r = refusal_head r ++ named_text (refusal_file r) (refusal_place r)
 
 -- ---- the refusal of a fault; each fault out of memory is refused as 90
-
--- the refusal for a fault of a value
-abbrev pub refusal_of_value : Fault → Refusal
-refusal_of_value fault = refusal.Value fault
 
 -- the refusal for a fault of a data set
 abbrev pub refusal_of_base : BaseFault → Refusal

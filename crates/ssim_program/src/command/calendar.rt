@@ -3,7 +3,7 @@
 ghost use Rattle.std.specs.Prelude.{◌≡◌, [], ◌∷◌, ◌++◌, ◌≤◌, codes, length, map, IfOk};
 ghost use Rattle.ssim_values.specs.Designator.{designator_text};
 ghost use Rattle.ssim_base.specs.Export.{line};
-ghost use Rattle.ssim_calendar.specs.Legend.{texts_of};
+ghost use Rattle.ssim_calendar.specs.clauses.Legend.{texts_of};
 ghost use Rattle.ssim_program.specs.Answers.{calendar};
 ghost use Rattle.ssim_program.specs.internal.Program.{Answers};
 ghost use Rattle.ssim_program.specs.print.Calendar.{calendar_lines, drawn, drawn_or_none};

@@ -6,7 +6,7 @@ use Rattle.std.specs.Str.{bytes_eq}
 use Rattle.ssim_text.specs.Canonical.{unless_empty}
 use Rattle.ssim_text.specs.Left.{without_end}
 use Rattle.ssim_columns.specs.Leg.{leg_columns}
-use Rattle.ssim_columns.specs.Segment.{tail_columns}
+use Rattle.ssim_columns.specs.clauses.Segment.{tail_columns}
 use Rattle.ssim_base.specs.Timetable.{LegValue, Legs}
 
 -- ---- leg lines

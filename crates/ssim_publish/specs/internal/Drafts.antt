@@ -9,10 +9,11 @@ use Rattle.ssim_periods.specs.Calendar.{day_count, holds}
 use Rattle.ssim_text.specs.declared.action.Action.{Action}
 use Rattle.ssim_base.specs.Stations.{Row}
 use Rattle.ssim_base.specs.Timetable.{Days, Legs, on_day, same_flight}
-use Rattle.ssim_schedule.specs.Schedule.{Flown, days_in}
+use Rattle.ssim_schedule.specs.clauses.Schedule.{Flown, days_in}
 use Rattle.ssim_schedule.specs.declared.finding.Finding.{Finding}
 use Rattle.ssim_difference.specs.Differences.{Compared, DifferencePiece}
-use Rattle.ssim_publish.specs.Acting.{ActEach, ActOnTheirDates}
+use Rattle.ssim_publish.specs.clauses.Acting.{ActEach}
+use Rattle.ssim_publish.specs.Acting.{ActOnTheirDates}
 use Rattle.ssim_publish.specs.Reach.{IsSaid, Reach, after_all}
 use Rattle.ssim_publish.specs.Published.{Leave, NamesDifferences}
 use Rattle.ssim_publish.specs.declared.draft.Draft.{Draft}

@@ -5,7 +5,7 @@ use Rattle.ssim_records.specs.declared.blocks.Stop.TheVariants.{Short, ReadFault
 use Rattle.ssim_records.specs.declared.fault.RecordFault.{RecordFault}
 use Rattle.ssim_records.specs.declared.fault.RecordFault.TheVariants as fault
 use Rattle.ssim_records.specs.Frames.{trim, Frames, others}
-use Rattle.ssim_records.specs.Blocks.{beyond}
+use Rattle.ssim_records.specs.clauses.Blocks.{beyond}
 
 -- the refusal of the record of a number, of which no block came
 abbrev pub refusal_of : Stop → ℕ → RecordFault

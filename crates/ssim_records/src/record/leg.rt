@@ -3,7 +3,7 @@
 ghost use Rattle.std.specs.Prelude.{◌≡◌, ◌↔◌, IsTrue, ◌≤◌, ◌<◌, ◌∷◌, [], Some, length};
 ghost use Rattle.ssim_columns.specs.Columns.{columns};
 ghost use Rattle.ssim_columns.specs.Leg.{IsLeg, IsEnd, SpellsLeg, leg_columns, written_leg};
-ghost use Rattle.ssim_columns.specs.Heads.{IsLegHead};
+ghost use Rattle.ssim_columns.specs.clauses.Heads.{IsLegHead};
 
 use crate::record::segment::SegmentRecord;
 use ssim_columns::leg_fields::{DAYS, OVERFLOW, RATE};

@@ -3,7 +3,7 @@
 ghost use Rattle.std.specs.Prelude.{◌≡◌, ◌↔◌, ◌<◌, ◌∷◌, [], IsTrue, length};
 ghost use Rattle.ssim_columns.specs.Columns.{columns, is_carried};
 ghost use Rattle.ssim_columns.specs.Segment.{IsSegment, SpellsSegment, written_segment};
-ghost use Rattle.ssim_columns.specs.Heads.{IsSegmentHead};
+ghost use Rattle.ssim_columns.specs.clauses.Heads.{IsSegmentHead};
 
 use ssim_columns::leg_fields::SERVICE_TYPE;
 use ssim_columns::{

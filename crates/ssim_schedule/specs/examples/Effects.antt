@@ -9,7 +9,7 @@ use Rattle.ssim_text.specs.declared.leg.LegLine.{LegLine}
 use Rattle.ssim_text.specs.declared.segment.SegmentLine.{SegmentLine}
 use Rattle.ssim_text.specs.declared.action.NewLegs.{NewLegs}
 use Rattle.ssim_text.specs.declared.action.Action.TheVariants.{New, Cnl, Rpl, Eqt, Tim}
-use Rattle.ssim_schedule.specs.Acts.{acted_on}
+use Rattle.ssim_schedule.specs.clauses.Acts.{acted_on}
 use Rattle.ssim_schedule.specs.internal.ActionParts.{counts_by}
 use Rattle.ssim_records.specs.LegParts.{new_leg, station_columns, with_equipment, with_times}
 use Rattle.ssim_records.specs.Segment.{new_tail}

@@ -6,7 +6,8 @@ use Rattle.ssim_periods.specs.Calendar.{holds}
 use Rattle.ssim_text.specs.declared.action.Action.{Action}
 use Rattle.ssim_text.specs.declared.action.Action.TheVariants.{New, Cnl, Rpl, Eqt, Tim}
 use Rattle.ssim_schedule.specs.Effect.{Variations, effect, new_legs}
-use Rattle.ssim_schedule.specs.Acts.{class_on, counted_by, is_point_of}
+use Rattle.ssim_schedule.specs.Acts.{class_on, counted_by}
+use Rattle.ssim_schedule.specs.clauses.Acts.{is_point_of}
 use Rattle.ssim_base.specs.Stations.{Row}
 use Rattle.ssim_base.specs.Timetable.{Days, Legs}
 

@@ -4,7 +4,7 @@ use Rattle.std.specs.Prelude.{None}
 use Rattle.ssim_values.specs.Flight.{FlightNumber}
 use Rattle.ssim_periods.specs.Calendar.{holds}
 use Rattle.ssim_periods.specs.Days.{changed_on}
-use Rattle.ssim_schedule.specs.PlacedLegs.{placed_each}
+use Rattle.ssim_schedule.specs.clauses.PlacedLegs.{placed_each}
 use Rattle.ssim_base.specs.ReadBack.{place_of}
 use Rattle.ssim_base.specs.Timetable.{Days, Legs}
 use Rattle.ssim_schedule.specs.declared.builder.leg_group.Heading.{Heading}

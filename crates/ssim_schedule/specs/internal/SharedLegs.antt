@@ -1,6 +1,6 @@
 -- What contracts see of a shared itinerary, its legs; and the hash that it keeps of them.
 use Rattle.std.specs.Prelude.{◌≡◌, ℕ, ◌+◌, ◌*◌, ◌%◌, ◌<◌, ◌≤◌, [], ◌∷◌, length}
-use Rattle.ssim_records.specs.Leg.{quick_hash}
+use Rattle.ssim_records.specs.clauses.Leg.{quick_hash}
 use Rattle.ssim_base.specs.Timetable.{LegValue, Legs}
 use Rattle.ssim_schedule.specs.declared.itinerary.SharedLegs.{SharedLegs}
 use Rattle.ssim_schedule.specs.declared.itinerary.SharedLegs.TheVariants.{None, One, Two, More}

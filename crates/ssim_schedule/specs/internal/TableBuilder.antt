@@ -2,7 +2,7 @@
 -- from the other flights.
 use Rattle.std.specs.Prelude.{Bool, false, nat_eq, ◌∷◌, Option, Some, None}
 use Rattle.ssim_values.specs.Flight.{FlightNumber}
-use Rattle.ssim_periods.specs.Days.{Seen}
+use Rattle.ssim_periods.specs.clauses.Days.{Seen}
 use Rattle.ssim_base.specs.ReadBack.{place_of}
 use Rattle.ssim_base.specs.Timetable.{Legs}
 use Rattle.ssim_schedule.specs.internal.Runs.{with_runs}

@@ -12,7 +12,7 @@ use Rattle.ssim_base.specs.Timetable.{Days, period_of, placed, tails_of}
 use Rattle.ssim_schedule.specs.internal.LegKey.{IsPlaced, name_place}
 use Rattle.ssim_schedule.specs.internal.LegGroup.{IsBound, StartsFrom, no_group, with_legs}
 use Rattle.ssim_base.specs.ReadBack.{place_of}
-use Rattle.ssim_schedule.specs.DivisionPoints.{is_point}
+use Rattle.ssim_schedule.specs.clauses.DivisionPoints.{is_point}
 use Rattle.ssim_schedule.specs.internal.Table.{table_cuts, table_days}
 use Rattle.ssim_schedule.specs.internal.TableBuilder.{table_of}
 use Rattle.ssim_schedule.specs.internal.PendingSegments.{waiting_at}

@@ -3,9 +3,10 @@
 ghost use Rattle.std.specs.Prelude.{◌≡◌, ◌⊎◌, ℕ, ◌+◌, ◌%◌, true, false, Contains, IfOk, IfSome};
 ghost use Rattle.std.specs.Prelude.{OnOk};
 ghost use Rattle.ssim_periods.specs.Calendar.{holds};
-ghost use Rattle.ssim_periods.specs.Days.{AddsOnly, changed_by_each, changed_on, ends_of};
+ghost use Rattle.ssim_periods.specs.clauses.Days.{AddsOnly, changed_by_each, ends_of};
+ghost use Rattle.ssim_periods.specs.Days.{changed_on};
 ghost use Rattle.ssim_base.specs.Timetable.{Days};
-ghost use Rattle.ssim_schedule.specs.PlacedLegs.{placed_each};
+ghost use Rattle.ssim_schedule.specs.clauses.PlacedLegs.{placed_each};
 ghost use Rattle.ssim_schedule.specs.internal.SharedLegs.{hash_of};
 ghost use Rattle.ssim_schedule.specs.internal.Runs.{IsWider, is_run_on, with_runs};
 

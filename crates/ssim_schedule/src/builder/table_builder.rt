@@ -4,7 +4,7 @@ ghost use Rattle.std.specs.Prelude.{◌≡◌, ℕ, Contains, IfOk, OnOk, [], No
 ghost use Rattle.ssim_values.specs.Flight.{FlightNumber};
 ghost use Rattle.ssim_periods.specs.Calendar.{holds};
 ghost use Rattle.ssim_schedule.specs.internal.TableBuilder.{is_current, table_of};
-ghost use Rattle.ssim_schedule.specs.PlacedLegs.{placed_each};
+ghost use Rattle.ssim_schedule.specs.clauses.PlacedLegs.{placed_each};
 ghost use Rattle.ssim_schedule.specs.internal.Table.{AddsEnds, ChangesOn, table_cuts, table_days};
 
 use crate::builder::leg_group::LegGroup;

@@ -2,9 +2,9 @@
 
 ghost use Rattle.std.specs.Prelude.{◌≡◌, ℕ, ◌<◌, ◌≤◌, ◌+◌, IfOk, OnOk, slice_index_or};
 ghost use Rattle.ssim_periods.specs.Calendar.{holds};
-ghost use Rattle.ssim_periods.specs.Days.{AddsOnly};
+ghost use Rattle.ssim_periods.specs.clauses.Days.{AddsOnly};
 ghost use Rattle.ssim_schedule.specs.internal.ActionParts.{AddsPoints, IsUniform, counts_by, sums_of};
-ghost use Rattle.ssim_schedule.specs.Acts.{acted_on};
+ghost use Rattle.ssim_schedule.specs.clauses.Acts.{acted_on};
 
 use crate::effect::division_points::next_point;
 use crate::effect::sub_message_change::SubMessageChange;

@@ -3,7 +3,7 @@
 ghost use Rattle.std.specs.Prelude.{◌≡◌, ◌⊎◌, ℕ, ◌<◌, ◌≤◌, ◌+◌, ◌-◌, IsTrue, ◌||◌, length, nat_eq, slice_index_or};
 ghost use Rattle.std.specs.List.{list_any};
 ghost use Rattle.ssim_schedule.specs.internal.ActionParts.{IsSteady};
-ghost use Rattle.ssim_schedule.specs.Acts.{divides, is_at, is_named, lines_of};
+ghost use Rattle.ssim_schedule.specs.clauses.Acts.{divides, is_at, is_named, lines_of};
 ghost use Rattle.ssim_base.specs.Stations.{Row};
 
 use ssim_base::StationRow;

@@ -24,7 +24,7 @@ pub struct FlightDate {
 }
 
 impl Model for FlightDate {
-    ghost use Rattle.ssim_schedule.specs.FlightDate.{DateSeen};
+    ghost use Rattle.ssim_schedule.specs.clauses.FlightDate.{DateSeen};
 
     ghost Value = { DateSeen };
 

@@ -1,7 +1,7 @@
 //! The columns that the lines of a message write in a leg and in the tail of a segment.
 
 ghost use Rattle.std.specs.Prelude.{◌≡◌, ◌<◌};
-ghost use Rattle.ssim_records.specs.LegParts.{equipment_fields};
+ghost use Rattle.ssim_records.specs.clauses.LegParts.{equipment_fields};
 ghost use Rattle.ssim_schedule.specs.MessageColumns.{equipment_of, new_columns, segment_tail, stations_of, times_of, with_equipment, with_times};
 
 use ssim_records::{LegColumns, LegEquipment, LegStations, LegTimes, SegmentTail};

@@ -3,7 +3,7 @@
 ghost use Rattle.std.specs.Prelude.{◌≡◌, IfOk, filter, map};
 ghost use Rattle.ssim_schedule.specs.FlightPieces.{AreExported, divided, divided_flights, flies};
 ghost use Rattle.ssim_schedule.specs.FlightPieces.{in_order};
-ghost use Rattle.ssim_schedule.specs.Schedule.{days_in};
+ghost use Rattle.ssim_schedule.specs.clauses.Schedule.{days_in};
 
 use crate::builder::flight_set::FlightSet;
 use crate::export::plan::{FlightPieces, divide};

@@ -3,14 +3,15 @@
 ghost use Rattle.std.specs.Prelude.{◌≡◌, ◌≤◌, ◌<◌, ◌+◌, ◌++◌, length, IfOk, OnOk};
 ghost use Rattle.std.specs.List.{All};
 ghost use Rattle.ssim_records.specs.Segment.{IsTail};
-ghost use Rattle.ssim_base.specs.Export.{fill_count, frame_from, numbered, section_bytes};
+ghost use Rattle.ssim_base.specs.Export.{fill_count, numbered, section_bytes};
+ghost use Rattle.ssim_base.specs.clauses.Export.{frame_from};
 ghost use Rattle.ssim_schedule.specs.internal.Plan.{HasWritableLegs, HasWritablePieces};
 ghost use Rattle.ssim_schedule.specs.internal.Plan.{alone_bytes, leg_lines, piece_lines};
 ghost use Rattle.ssim_schedule.specs.internal.Plan.{pieces_count, plan_bytes, plan_count};
 ghost use Rattle.ssim_schedule.specs.internal.Plan.{plan_lines, plan_records, tail_lines};
 ghost use Rattle.ssim_schedule.specs.internal.SharedLegs.{legs_count};
 ghost use Rattle.ssim_base.specs.ReadBack.{IsWritable};
-ghost use Rattle.ssim_base.specs.Sinks.{Puts, PutsUpTo};
+ghost use Rattle.ssim_base.specs.clauses.Sinks.{Puts, PutsUpTo};
 
 use crate::export::plan::FlightPieces;
 use crate::itinerary::Itinerary;

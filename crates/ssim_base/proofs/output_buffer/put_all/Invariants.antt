@@ -1,6 +1,6 @@
 -- The sink took the bytes up to the rest, and no put failed.
 use Rattle.std.proofs.Common.{length}
-use Rattle.ssim_base.specs.Sinks.{GrowsUpTo}
+use Rattle.ssim_base.specs.clauses.Sinks.{GrowsUpTo}
 use Rattle.ssim_base.proofs.output_buffer.put_all.Given as goal
 
 abbrev pub invariant-loop-rest : goal.invariant-loop-rest

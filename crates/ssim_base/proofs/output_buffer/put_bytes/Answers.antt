@@ -1,7 +1,8 @@
 -- The bytes are held; or the sink fails at the buffer's own bytes or at these; or these follow the
 -- buffer's own into the sink.
 use Rattle.std.proofs.Common.{◌≡◌, ◌++◌, ℕ, List, [], ap, sym, subst, ◌∙◌}
-use Rattle.ssim_base.specs.Sinks.{Breaks, Grows, GrowsUpTo}
+use Rattle.ssim_base.specs.Sinks.{Breaks, Grows}
+use Rattle.ssim_base.specs.clauses.Sinks.{GrowsUpTo}
 use Rattle.ssim_base.proofs.SinkLemmas.{all_put, broken_more, fails, grows_then, held_more}
 use Rattle.ssim_base.proofs.SinkLemmas.{then_fails}
 use Rattle.ssim_base.proofs.output_buffer.put_bytes.Goals as goal

@@ -3,7 +3,8 @@ use Rattle.std.proofs.Common.{List, ℕ, ◌-◌, ◌++◌, Ok, replicate, subst
 use Rattle.std.specs.List.{flat_map}
 use Rattle.ssim_records.specs.Frames.{fill}
 use Rattle.ssim_base.specs.Export.{line}
-use Rattle.ssim_base.specs.Sinks.{Breaks, GrowsUpTo, PutsUpTo}
+use Rattle.ssim_base.specs.Sinks.{Breaks}
+use Rattle.ssim_base.specs.clauses.Sinks.{GrowsUpTo, PutsUpTo}
 use Rattle.ssim_base.proofs.SinkLemmas.{broken_more, fails, fill_more, held_after, no_fill}
 use Rattle.ssim_base.proofs.SinkLemmas.{part_fails, part_none, part_then}
 use Rattle.ssim_base.proofs.output_buffer.put_fill.Goals as goal

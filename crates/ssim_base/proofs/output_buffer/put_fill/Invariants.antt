@@ -4,7 +4,7 @@ use Rattle.std.specs.List.{flat_map}
 use Rattle.ssim_records.specs.Device.{Writer}
 use Rattle.ssim_records.specs.Frames.{fill}
 use Rattle.ssim_base.specs.Export.{line}
-use Rattle.ssim_base.specs.Sinks.{PutsUpTo}
+use Rattle.ssim_base.specs.clauses.Sinks.{PutsUpTo}
 use Rattle.ssim_base.specs.declared.output_buffer.WriteFault.{WriteFault}
 use Rattle.ssim_base.proofs.output_buffer.put_fill.Given as goal
 

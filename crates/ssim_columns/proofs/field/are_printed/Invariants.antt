@@ -2,7 +2,7 @@
 use Rattle.std.proofs.Common.{◌≡◌, ◌&&◌, drop}
 use Rattle.std.specs.Prelude.{nat_lt}
 use Rattle.std.specs.List.{list_all}
-use Rattle.ssim_columns.specs.Columns.{is_printed}
+use Rattle.ssim_columns.specs.clauses.Columns.{is_printed}
 use Rattle.ssim_columns.proofs.field.are_printed.Given as goal
 
 abbrev pub invariant-loop-byte : goal.invariant-loop-byte

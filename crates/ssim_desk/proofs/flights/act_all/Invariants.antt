@@ -1,6 +1,6 @@
 -- The schedule is the one after the messages so far, and the lines are of what they found.
 use Rattle.std.proofs.Common.{◌≡◌, List, take}
-use Rattle.ssim_schedule.specs.Schedule.{Flown}
+use Rattle.ssim_schedule.specs.clauses.Schedule.{Flown}
 use Rattle.ssim_base.specs.Stations.{Row}
 use Rattle.ssim_held.specs.Entries.{Entry}
 use Rattle.ssim_desk.specs.Desk.{entry_lines}

@@ -1,6 +1,6 @@
 -- A message that reaches into the dates acts; another one leaves them as they are.
 use Rattle.std.proofs.Common.{◌∙◌, sym, subst}
-use Rattle.ssim_schedule.specs.Schedule.{Flown}
+use Rattle.ssim_schedule.specs.clauses.Schedule.{Flown}
 use Rattle.ssim_desk.specs.Meaning.{after_entry}
 use Rattle.ssim_desk.specs.internal.Changes.{Shows}
 use Rattle.ssim_desk.proofs.SomeDates.{acted_more, left_more}

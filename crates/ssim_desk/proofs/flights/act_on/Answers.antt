@@ -1,6 +1,6 @@
 -- A message that names one of the flights acts; another one leaves them as they are.
 use Rattle.std.proofs.Common.{◌∙◌, sym, subst}
-use Rattle.ssim_schedule.specs.Schedule.{Flown}
+use Rattle.ssim_schedule.specs.clauses.Schedule.{Flown}
 use Rattle.ssim_desk.specs.Meaning.{after_entry}
 use Rattle.ssim_desk.specs.internal.Changes.{Shows}
 use Rattle.ssim_desk.proofs.SomeFlights.{named_more, names_none, other_more}

@@ -1,7 +1,7 @@
 -- At the flights the schedule is the one after the messages so far.
 use Rattle.std.proofs.Common.{List, take}
 use Rattle.ssim_values.specs.Flight.{FlightNumber}
-use Rattle.ssim_schedule.specs.Schedule.{Flown}
+use Rattle.ssim_schedule.specs.clauses.Schedule.{Flown}
 use Rattle.ssim_base.specs.Stations.{Row}
 use Rattle.ssim_held.specs.Entries.{Entry}
 use Rattle.ssim_desk.specs.Meaning.{Timetable, after_entries}

@@ -4,7 +4,7 @@ use Rattle.std.proofs.Common.{◌≡◌, List, IfOk, ap, subst, ◌∙◌}
 use Rattle.ssim_values.specs.Flight.{FlightNumber}
 use Rattle.ssim_records.specs.declared.record.Record.{Record}
 use Rattle.ssim_base.specs.Stations.{Row}
-use Rattle.ssim_base.specs.Timetable.{itinerary_among}
+use Rattle.ssim_base.specs.clauses.Timetable.{itinerary_among}
 use Rattle.ssim_base.proofs.Results.{if_ok}
 use Rattle.ssim_desk.specs.Desk.{entry_lines}
 use Rattle.ssim_desk.specs.Meaning.{Timetable, entries_findings}

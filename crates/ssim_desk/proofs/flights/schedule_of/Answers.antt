@@ -3,7 +3,8 @@ use Rattle.std.proofs.Common.{ℕ, List, ap, subst, ◌∙◌}
 use Rattle.ssim_periods.specs.Days.{each_day}
 use Rattle.ssim_records.specs.declared.record.Record.{Record}
 use Rattle.ssim_base.specs.Stations.{Row}
-use Rattle.ssim_base.specs.Timetable.{Legs, itinerary, itinerary_among}
+use Rattle.ssim_base.specs.Timetable.{Legs, itinerary}
+use Rattle.ssim_base.specs.clauses.Timetable.{itinerary_among}
 use Rattle.ssim_desk.specs.Meaning.{Timetable, after_entries}
 use Rattle.ssim_desk.specs.internal.Changes.{AgreeAt, Shows}
 use Rattle.ssim_desk.proofs.SomeFlights.{among_is, entries_agree}

@@ -5,7 +5,7 @@ use Rattle.std.specs.FinMap.{get}
 use Rattle.std.specs.List.{insert}
 use Rattle.ssim_held.specs.Held.{DeskState}
 use Rattle.ssim_held.specs.Entries.{AreEntries, Entry, map_of}
-use Rattle.ssim_held.specs.Pages.{all_of, position}
+use Rattle.ssim_held.specs.clauses.Pages.{all_of, position}
 use Rattle.ssim_held.proofs.OnPages.{held_on}
 use Rattle.ssim_desk.proofs.Changes.{in_conflict, inserted_entries, is_known, is_new, known, says}
 use Rattle.ssim_desk.proofs.intake.hold.Goals as goal

@@ -1,7 +1,7 @@
 -- What the sub-messages so far leave, from which those that are left lead to what all of them
 -- leave; and the cuts that they add.
 use Rattle.std.proofs.Common.{◌≡◌, ℕ, List, ◌++◌, drop}
-use Rattle.ssim_schedule.specs.Schedule.{Flown, cuts_in}
+use Rattle.ssim_schedule.specs.clauses.Schedule.{Flown, cuts_in}
 use Rattle.ssim_base.specs.Stations.{Row}
 use Rattle.ssim_schedule.specs.declared.finding.Finding.{Finding}
 use Rattle.ssim_held.specs.Entries.{Entry}

@@ -3,7 +3,7 @@ use Rattle.std.proofs.Common.{◌≤◌, subst}
 use Rattle.std.specs.Prelude.{IsTrue}
 use Rattle.ssim_values.specs.Flight.{IsFlight, is_suffix}
 use Rattle.ssim_base.proofs.Results.{if_ok, on_ok}
-use Rattle.ssim_schedule.specs.Schedule.{cuts_in}
+use Rattle.ssim_schedule.specs.clauses.Schedule.{cuts_in}
 use Rattle.ssim_desk.proofs.Points.{adds_told}
 use Rattle.ssim_desk.proofs.Shown.{found_told, shows_told}
 use Rattle.ssim_desk.proofs.message_effect.act_one.Goals as goal

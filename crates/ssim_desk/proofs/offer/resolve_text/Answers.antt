@@ -1,7 +1,7 @@
 -- What the text spells is the message that is resolved.
 use Rattle.std.proofs.Common.{◌≡◌, Result, Err, IfErr, sym, subst, rules}
 use Rattle.ssim_base.specs.declared.resolution.ResolvedText.{ResolvedText}
-use Rattle.ssim_held.specs.Fault.{message_refused, text_refused}
+use Rattle.ssim_held.specs.clauses.Fault.{message_refused, text_refused}
 use Rattle.ssim_held.specs.declared.fault.DeskFault.{DeskFault}
 use Rattle.ssim_text.specs.Message.{MessageValue}
 use Rattle.ssim_desk.specs.Steps.{RefusesText}

@@ -1,6 +1,7 @@
 use Rattle.std.proofs.Common.{◌≡◌, false, length, map, get_or, set, refl, sym, subst}
 use Rattle.ssim_held.specs.Entries.{map_of}
-use Rattle.ssim_desk.specs.Steps.{Acts, IsInRange, Takes, is_change}
+use Rattle.ssim_desk.specs.Steps.{Acts, IsInRange, Takes}
+use Rattle.ssim_desk.specs.clauses.Steps.{is_change}
 use Rattle.ssim_desk.proofs.StepLemmas.{idle_take, state, take_at}
 use Rattle.ssim_desk.proofs.steps.run_step.Goals as goal
 

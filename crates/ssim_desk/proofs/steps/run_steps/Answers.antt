@@ -1,7 +1,8 @@
 use Rattle.std.proofs.Common.{◌≡◌, ◌+◌, ◌++◌, ◌∷◌, [], All, map, take, subst, sym, ◌∙◌, arith}
 use Rattle.std.proofs.lemmas.Grind.{common_steps}
 use Rattle.std.proofs.lemmas.List.{length-map, take_all}
-use Rattle.ssim_desk.specs.Steps.{IsInRange, IsOwnMerge, LeavesIdle, Runs}
+use Rattle.ssim_desk.specs.Steps.{IsInRange, Runs}
+use Rattle.ssim_desk.specs.clauses.Steps.{IsOwnMerge, LeavesIdle}
 use Rattle.ssim_desk.proofs.OneRun.{desks_agree}
 use Rattle.ssim_desk.proofs.StepLemmas.{idle_more, one_more, state}
 use Rattle.ssim_desk.proofs.steps.run_steps.Goals as goal

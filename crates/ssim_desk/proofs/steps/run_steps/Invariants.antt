@@ -1,5 +1,6 @@
 use Rattle.std.proofs.Common.{◌≡◌, ◌≤◌, All, length, map, take, vec_capacity, vec_len}
-use Rattle.ssim_desk.specs.Steps.{IsOwnMerge, LeavesIdle, Runs}
+use Rattle.ssim_desk.specs.clauses.Steps.{IsOwnMerge, LeavesIdle}
+use Rattle.ssim_desk.specs.Steps.{Runs}
 use Rattle.ssim_desk.proofs.StepLemmas.{state}
 use Rattle.ssim_desk.proofs.steps.run_steps.Given as goal
 

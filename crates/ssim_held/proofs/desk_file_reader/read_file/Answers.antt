@@ -1,7 +1,7 @@
 -- Part by part, what was read is the file's, and what was not read is of no desk.
 use Rattle.std.proofs.Common.{rules, ◌≡◌, ◌≢◌, ◌++◌, ◌<◌, ◌^◌, ◌∙◌, List, ℕ, IfSome, length, Err, refl, sym, ap}
 use Rattle.std.proofs.lemmas.List.{append-nil}
-use Rattle.ssim_records.specs.InputBuffer.{ahead}
+use Rattle.ssim_records.specs.clauses.InputBuffer.{ahead}
 use Rattle.ssim_records.proofs.InputBuffers.{uses_then}
 use Rattle.ssim_base.specs.BaseSeen.{BaseSeen, base_with}
 use Rattle.ssim_held.specs.File.{IsDeskFile, end_line, records_part, rows_part, texts_part}

@@ -1,5 +1,5 @@
 use Rattle.std.proofs.Common.{◌-◌}
-use Rattle.ssim_held.specs.Ordered.{Belongs}
+use Rattle.ssim_held.specs.clauses.Ordered.{Belongs}
 use Rattle.ssim_held.proofs.lookup.search.Given as goal
 
 abbrev pub invariant-loop-low : goal.invariant-loop-low

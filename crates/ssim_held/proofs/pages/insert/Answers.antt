@@ -4,7 +4,7 @@ use Rattle.std.proofs.lemmas.Option.{get_or_from_slice_get, slice_get_within}
 use Rattle.std.proofs.lemmas.Result.{on_ok_weaker}
 use Rattle.std.specs.List.{insert}
 use Rattle.ssim_held.specs.Entries.{Entry}
-use Rattle.ssim_held.specs.Pages.{IsFilled, all_of, position}
+use Rattle.ssim_held.specs.clauses.Pages.{IsFilled, all_of, position}
 use Rattle.ssim_held.proofs.OnPages.{filled_after, filled_set, gap_page, put_on}
 use Rattle.ssim_held.proofs.pages.insert.Goals as goal
 

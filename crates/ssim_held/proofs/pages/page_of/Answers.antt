@@ -1,7 +1,7 @@
 -- The first message of the page in the middle says in which half the reference belongs.
 use Rattle.std.proofs.Common.{◌≡◌, ◌∙◌, ◌+◌, ◌-◌, ◌/◌, ◌<◌, Some, slice_get, length, arith, sym, ap}
 use Rattle.std.proofs.lemmas.Bool.{false≢true}
-use Rattle.ssim_held.specs.Pages.{all_of}
+use Rattle.ssim_held.specs.clauses.Pages.{all_of}
 use Rattle.ssim_held.proofs.OnPages.{before_page, from_page, position_end, position_zero}
 use Rattle.ssim_held.proofs.Searching.{at_index, no_more}
 use Rattle.ssim_held.proofs.pages.page_of.Goals as goal

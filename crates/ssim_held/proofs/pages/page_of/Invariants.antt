@@ -1,7 +1,7 @@
 -- The reference belongs after the first message of page `low`, and before page `high`.
 use Rattle.std.proofs.Common.{◌<◌, ◌≤◌, ◌-◌, length}
-use Rattle.ssim_held.specs.Ordered.{Belongs}
-use Rattle.ssim_held.specs.Pages.{all_of, position_on}
+use Rattle.ssim_held.specs.clauses.Ordered.{Belongs}
+use Rattle.ssim_held.specs.clauses.Pages.{all_of, position_on}
 use Rattle.ssim_held.proofs.pages.page_of.Given as goal
 
 abbrev pub invariant-loop-high : goal.invariant-loop-high

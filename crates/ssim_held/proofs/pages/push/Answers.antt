@@ -3,7 +3,7 @@ use Rattle.std.proofs.Common.{rules, ◌≡◌, ◌∙◌, ◌-◌, List, Some, 
 use Rattle.std.proofs.lemmas.Result.{on_ok_weaker}
 use Rattle.std.specs.List.{insert}
 use Rattle.ssim_held.specs.Entries.{Entry}
-use Rattle.ssim_held.specs.Pages.{all_of}
+use Rattle.ssim_held.specs.clauses.Pages.{all_of}
 use Rattle.ssim_held.proofs.OnPages.{put_last}
 use Rattle.ssim_held.proofs.Searching.{at_index}
 use Rattle.ssim_held.proofs.pages.push.Goals as goal

@@ -3,7 +3,7 @@ use Rattle.std.proofs.Common.{◌≡◌, ◌∙◌, List, [], slice_set, sym, ap
 use Rattle.std.proofs.lemmas.Option.{get_or_from_slice_get, slice_get_within}
 use Rattle.std.specs.List.{remove}
 use Rattle.ssim_held.specs.Entries.{Entry}
-use Rattle.ssim_held.specs.Pages.{all_of}
+use Rattle.ssim_held.specs.clauses.Pages.{all_of}
 use Rattle.ssim_held.proofs.OnPages.{none_left, taken_from, without_empty}
 use Rattle.ssim_held.proofs.pages.remove.Goals as goal
 

@@ -1,7 +1,7 @@
 use Rattle.std.proofs.Common.{◌≡◌, ◌∷◌, ◌++◌, ◌∙◌, [], List, sym, ap, subst, append_assoc}
 use Rattle.std.proofs.lemmas.List.{append-nil}
 use Rattle.ssim_held.specs.Entries.{Entry}
-use Rattle.ssim_held.specs.Ordered.{IsMerged}
+use Rattle.ssim_held.specs.clauses.Ordered.{IsMerged}
 use Rattle.ssim_held.proofs.union.merged.Goals as goal
 
 pub loop-held-preserved : goal.loop-held-preserved

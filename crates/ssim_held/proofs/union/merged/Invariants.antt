@@ -1,6 +1,6 @@
 use Rattle.std.proofs.Common.{List, ◌+◌, ◌++◌, length}
 use Rattle.ssim_held.specs.Entries.{Entry}
-use Rattle.ssim_held.specs.Ordered.{IsMerged}
+use Rattle.ssim_held.specs.clauses.Ordered.{IsMerged}
 use Rattle.ssim_held.proofs.union.merged.Given as goal
 
 abbrev pub invariant-loop-held : goal.invariant-loop-held

@@ -2,7 +2,7 @@
 use Rattle.std.proofs.Common.{◌∙◌, ◌++◌, List, Option, option_map, ap, sym}
 use Rattle.std.specs.Option.{option_to_list}
 use Rattle.ssim_mailbox.specs.Texts.{MailText, parts_of, texts_of, with_line}
-use Rattle.ssim_mailbox.specs.Mail.{mail_of}
+use Rattle.ssim_mailbox.specs.clauses.Mail.{mail_of}
 use Rattle.ssim_mailbox.specs.Lines.{MailLine}
 use Rattle.ssim_mailbox.specs.FreeTexts.{cut_parts}
 use Rattle.ssim_mailbox.specs.internal.Lines.{line_of, lines_left}

@@ -1,6 +1,7 @@
 -- The carrier records are those of the frames; what is refused is refused in this order.
 use Rattle.std.proofs.Common.{◌≡◌, ℕ, List, Result, Err, IfErr, refl, sym, subst, rules}
-use Rattle.ssim_base.specs.Export.{Frame, frame_from}
+use Rattle.ssim_base.specs.Export.{Frame}
+use Rattle.ssim_base.specs.clauses.Export.{frame_from}
 use Rattle.ssim_base.specs.ReadBack.{HasFrame}
 use Rattle.ssim_held.specs.Entries.{Entry}
 use Rattle.ssim_outbox.specs.Comparable.{HaveCarriers}

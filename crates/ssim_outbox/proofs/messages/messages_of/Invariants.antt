@@ -1,7 +1,7 @@
 -- The messages so far send the sub-messages that are not left.
 use Rattle.std.proofs.Common.{◌+◌, ◌≤◌, length}
 use Rattle.std.specs.List.{AllByRecursion}
-use Rattle.ssim_outbox.specs.Messages.{IsAlone}
+use Rattle.ssim_outbox.specs.clauses.Messages.{IsAlone}
 use Rattle.ssim_outbox.specs.internal.Texts.{AreSent}
 use Rattle.ssim_outbox.proofs.messages.messages_of.Given as goal
 

@@ -2,7 +2,7 @@
 use Rattle.std.proofs.Common.{◌∙◌, List, ap, subst}
 use Rattle.ssim_base.specs.BaseSeen.{BaseSeen}
 use Rattle.ssim_base.specs.Stations.{Row}
-use Rattle.ssim_schedule.specs.Schedule.{days_in}
+use Rattle.ssim_schedule.specs.clauses.Schedule.{days_in}
 use Rattle.ssim_desk.specs.Desk.{days_of_desk}
 use Rattle.ssim_outbox.proofs.Joined.{plan_of_days}
 use Rattle.ssim_outbox.proofs.plan_subs.plan_between.Goals as goal

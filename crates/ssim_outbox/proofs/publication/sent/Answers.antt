@@ -1,8 +1,8 @@
 -- The messages send the sub-messages of the plan.
 use Rattle.std.proofs.Common.{◌≡◌, ◌∙◌, List, Err, IfErr, sym, subst, rules}
 use Rattle.ssim_text.specs.declared.action.Sub.{Sub}
-use Rattle.ssim_outbox.specs.Fault.{not_sent}
-use Rattle.ssim_outbox.specs.Messages.{RefusesSubs}
+use Rattle.ssim_outbox.specs.clauses.Fault.{not_sent}
+use Rattle.ssim_outbox.specs.clauses.Messages.{RefusesSubs}
 use Rattle.ssim_outbox.specs.Publication.{subs_of_plan}
 use Rattle.ssim_outbox.specs.internal.Addressed.{RefusesMessages}
 use Rattle.ssim_outbox.proofs.Joined.{not_sent_is}

@@ -1,6 +1,6 @@
 -- Each request makes what its command does.
 use Rattle.std.proofs.Common.{◌≡◌, Bor, Err, List, ℕ, Ok, Option, Result, Vec, map, option_map, refl, subst, sym}
-use Rattle.ssim_command_line.specs.Request.{line_of}
+use Rattle.ssim_command_line.specs.clauses.Request.{line_of}
 use Rattle.ssim_command_line.specs.declared.command_line.Request.{Request}
 use Rattle.ssim_program.specs.Acts.{prints}
 use Rattle.ssim_program.specs.Answer.{Answer}

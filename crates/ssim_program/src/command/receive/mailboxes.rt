@@ -1,7 +1,7 @@
 //! Mailbox files, whose texts are tried at a desk one after another.
 
 ghost use Rattle.std.specs.Prelude.{◌≡◌, IfNone, IfOk, IfSome, OnOk, map};
-ghost use Rattle.ssim_mailbox.specs.Mail.{mail_of};
+ghost use Rattle.ssim_mailbox.specs.clauses.Mail.{mail_of};
 ghost use Rattle.ssim_mailbox.specs.Texts.{texts_in};
 ghost use Rattle.ssim_program.specs.Made.{HasFile, IsMissing};
 ghost use Rattle.ssim_program.specs.Receiving.{ReceivesFile, Tries, TriesEach};

@@ -1,7 +1,7 @@
 -- Equal itineraries need no action. Others that messages reach are made by one of the candidates.
 use Rattle.std.proofs.Common.{◌≡◌, ◌∙◌, List, [], sym, subst}
 use Rattle.ssim_text.specs.declared.action.Action.{Action}
-use Rattle.ssim_base.specs.ItineraryLaws.{exact_itinerary}
+use Rattle.ssim_base.specs.clauses.ItineraryLaws.{exact_itinerary}
 use Rattle.ssim_publish.specs.Reach.{Leads}
 use Rattle.ssim_publish.specs.Sayable.{HaveColumns}
 use Rattle.ssim_publish.specs.internal.ColumnLines.{same_route}

@@ -4,7 +4,7 @@ use Rattle.std.specs.Prelude.{IsTrue}
 use Rattle.ssim_values.specs.Flight.{IsFlight, is_suffix}
 use Rattle.ssim_text.specs.declared.action.Action.{Action}
 use Rattle.ssim_base.specs.Timetable.{Days}
-use Rattle.ssim_schedule.specs.Schedule.{days_in}
+use Rattle.ssim_schedule.specs.clauses.Schedule.{days_in}
 use Rattle.ssim_publish.specs.internal.Drafts.{ActOnEach}
 use Rattle.ssim_publish.proofs.Findings.{each_after, long_after}
 use Rattle.ssim_publish.proofs.draft.+act_on.Goals as goal

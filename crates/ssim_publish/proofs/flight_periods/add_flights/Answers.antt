@@ -1,5 +1,5 @@
 -- One flight more.
-use Rattle.ssim_schedule.specs.Schedule.{days_in}
+use Rattle.ssim_schedule.specs.clauses.Schedule.{days_in}
 use Rattle.ssim_publish.proofs.flight_periods.add_flights.Goals as goal
 
 pub loop-flight-preserved : goal.loop-flight-preserved

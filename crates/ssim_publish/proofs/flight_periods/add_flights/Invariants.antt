@@ -1,5 +1,5 @@
 -- It stays a draft.
-use Rattle.ssim_schedule.specs.Schedule.{days_in}
+use Rattle.ssim_schedule.specs.clauses.Schedule.{days_in}
 use Rattle.ssim_publish.specs.internal.Drafts.{IsDraft}
 use Rattle.ssim_publish.proofs.flight_periods.add_flights.Given as goal
 

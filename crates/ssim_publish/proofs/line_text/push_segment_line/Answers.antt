@@ -1,6 +1,6 @@
 -- Two points, an identifier and a text.
 use Rattle.std.proofs.Common.{◌∙◌, ◌++◌, ◌∷◌, [], ℕ, List, ap}
-use Rattle.ssim_columns.specs.Segment.{tail_columns}
+use Rattle.ssim_columns.specs.clauses.Segment.{tail_columns}
 use Rattle.ssim_text.specs.Left.{without_end}
 use Rattle.ssim_publish.specs.internal.ColumnLines.{segment_line, without_zeros}
 use Rattle.ssim_publish.proofs.JoinedLines.{segment_joined}

@@ -3,7 +3,7 @@ use Rattle.std.proofs.Common.{◌∙◌, ◌⊎◌, ◌<◌, ◌≤◌, inl, inr
 use Rattle.ssim_periods.specs.Calendar.{holds}
 use Rattle.ssim_periods.proofs.CountLemmas.{le_or_lt}
 use Rattle.ssim_periods.proofs.DayLemmas.{day_count-is}
-use Rattle.ssim_schedule.specs.Schedule.{days_in}
+use Rattle.ssim_schedule.specs.clauses.Schedule.{days_in}
 use Rattle.ssim_publish.specs.internal.Drafts.{IsMadeOn}
 use Rattle.ssim_publish.proofs.Weeks.{made_weeks}
 use Rattle.ssim_publish.proofs.made_dates.is_made.Goals as goal

@@ -1,7 +1,7 @@
 -- The days so far are made.
 use Rattle.std.proofs.Common.{◌≡◌, ◌-◌, ◌<◌, true, ℕ}
 use Rattle.ssim_periods.specs.Calendar.{day_count, holds}
-use Rattle.ssim_schedule.specs.Schedule.{days_in}
+use Rattle.ssim_schedule.specs.clauses.Schedule.{days_in}
 use Rattle.ssim_publish.specs.internal.Drafts.{IsMadeOn}
 use Rattle.ssim_publish.proofs.made_dates.is_made.Given as goal
 

@@ -1,6 +1,6 @@
 -- The itineraries of the day are compared.
 use Rattle.std.proofs.Common.{◌∙◌, not, ℕ, refl, sym, ap, subst}
-use Rattle.ssim_schedule.specs.Schedule.{days_in}
+use Rattle.ssim_schedule.specs.clauses.Schedule.{days_in}
 use Rattle.ssim_publish.specs.internal.Drafts.{IsMadeOn}
 use Rattle.ssim_publish.proofs.Settling.{itinerary_at, made_at}
 use Rattle.ssim_publish.proofs.made_dates.is_made_at.Goals as goal

@@ -1,6 +1,6 @@
 -- The cuts of each of the three are not before its end, and the last end is not after it.
 use Rattle.std.proofs.Common.{arith}
-use Rattle.ssim_schedule.specs.Schedule.{days_in}
+use Rattle.ssim_schedule.specs.clauses.Schedule.{days_in}
 use Rattle.ssim_publish.proofs.Weeks.{same_on, weekly_between}
 use Rattle.ssim_publish.proofs.made_dates.next_cut.Goals as goal
 

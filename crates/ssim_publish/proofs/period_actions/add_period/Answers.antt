@@ -6,7 +6,7 @@ use Rattle.ssim_values.specs.Flight.{FlightNumber}
 use Rattle.ssim_periods.specs.Calendar.{day_count, holds}
 use Rattle.ssim_base.specs.Timetable.{Days}
 use Rattle.ssim_text.specs.declared.action.Action.{Action}
-use Rattle.ssim_schedule.specs.Schedule.{Flown, days_in}
+use Rattle.ssim_schedule.specs.clauses.Schedule.{Flown, days_in}
 use Rattle.ssim_publish.specs.internal.Drafts.{ActOnEach, Acts, AreAsLong, IsChangeOf, IsMadeOn}
 use Rattle.ssim_publish.proofs.Settling.{kept_period}
 use Rattle.ssim_publish.proofs.period_actions.add_period.Goals as goal

@@ -1,7 +1,7 @@
 -- The last loop settles each date on which the timetable before it differs from the new one.
 use Rattle.std.proofs.Common.{◌∙◌, ap, subst, List}
 use Rattle.ssim_schedule.specs.FlightPieces.{divided_flights}
-use Rattle.ssim_schedule.specs.Schedule.{Flown, days_in}
+use Rattle.ssim_schedule.specs.clauses.Schedule.{Flown, days_in}
 use Rattle.ssim_difference.specs.Differences.{Compared, differences}
 use Rattle.ssim_publish.specs.internal.Drafts.{Settles, dates_of_flights}
 use Rattle.ssim_publish.proofs.Settling.{nothing_yet, published_after}

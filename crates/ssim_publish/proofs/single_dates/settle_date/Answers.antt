@@ -5,10 +5,10 @@ use Rattle.ssim_values.specs.Flight.{IsFlight, is_suffix}
 use Rattle.ssim_periods.specs.Calendar.{day_count}
 use Rattle.ssim_periods.proofs.DayLemmas.{day_count-is}
 use Rattle.ssim_base.specs.Export.{same_itinerary}
-use Rattle.ssim_base.specs.ItineraryLaws.{exact_itinerary}
+use Rattle.ssim_base.specs.clauses.ItineraryLaws.{exact_itinerary}
 use Rattle.ssim_base.specs.Timetable.{Legs, on_day}
-use Rattle.ssim_schedule.specs.Schedule.{days_in}
-use Rattle.ssim_publish.specs.Acting.{ActEach}
+use Rattle.ssim_schedule.specs.clauses.Schedule.{days_in}
+use Rattle.ssim_publish.specs.clauses.Acting.{ActEach}
 use Rattle.ssim_publish.specs.Reach.{Leads, Reach}
 use Rattle.ssim_publish.proofs.Settling.{date_acted, itinerary_at, settled_already}
 use Rattle.ssim_publish.proofs.single_dates.settle_date.Goals as goal

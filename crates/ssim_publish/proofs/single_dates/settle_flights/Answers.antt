@@ -1,7 +1,7 @@
 -- One flight more.
 use Rattle.std.proofs.Common.{◌∙◌, ◌+◌, ◌||◌, List, take, sym, ap, subst}
 use Rattle.std.proofs.lemmas.List.Folds.{list_any_more}
-use Rattle.ssim_schedule.specs.Schedule.{days_in}
+use Rattle.ssim_schedule.specs.clauses.Schedule.{days_in}
 use Rattle.ssim_values.specs.Flight.{FlightNumber}
 use Rattle.ssim_difference.specs.Differences.{Compared, DifferencePiece}
 use Rattle.ssim_publish.specs.internal.Drafts.{Settles, dates_of_flights, dates_of_pieces}

@@ -1,6 +1,6 @@
 -- The dates of the flights so far are settled.
 use Rattle.std.proofs.Common.{take}
-use Rattle.ssim_schedule.specs.Schedule.{days_in}
+use Rattle.ssim_schedule.specs.clauses.Schedule.{days_in}
 use Rattle.ssim_publish.specs.internal.Drafts.{IsDraft, Settles, dates_of_flights}
 use Rattle.ssim_publish.proofs.single_dates.settle_flights.Given as goal
 

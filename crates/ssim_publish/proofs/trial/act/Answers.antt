@@ -5,7 +5,8 @@ use Rattle.std.specs.Vec.Iter.{into_iter_items}
 use Rattle.ssim_text.specs.declared.action.Action.{Action}
 use Rattle.ssim_text.proofs.ReadsBack.{all_both}
 use Rattle.ssim_schedule.specs.Acts.{after_on}
-use Rattle.ssim_publish.specs.Acting.{ActEach, DoesAct}
+use Rattle.ssim_publish.specs.clauses.Acting.{ActEach}
+use Rattle.ssim_publish.specs.Acting.{DoesAct}
 use Rattle.ssim_publish.specs.Reach.{IsSaid, after_all}
 use Rattle.ssim_publish.proofs.Acting.{each_both}
 use Rattle.ssim_publish.proofs.Tried.{after_both}

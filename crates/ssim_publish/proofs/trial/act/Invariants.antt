@@ -2,7 +2,7 @@
 use Rattle.std.proofs.Common.{◌≡◌, length}
 use Rattle.std.specs.List.{AllByRecursion}
 use Rattle.std.specs.Vec.Iter.{into_iter_items, into_iter_len}
-use Rattle.ssim_publish.specs.Acting.{ActEach}
+use Rattle.ssim_publish.specs.clauses.Acting.{ActEach}
 use Rattle.ssim_publish.specs.Reach.{IsSaid, after_all}
 use Rattle.ssim_publish.proofs.trial.act.Given as goal
 

@@ -1,7 +1,7 @@
 -- The actions act on the legs of the old itinerary, and the test compares what they leave with the
 -- new one.
 use Rattle.std.proofs.Common.{◌∙◌, sym, ap}
-use Rattle.ssim_base.specs.ItineraryLaws.{exact_itinerary}
+use Rattle.ssim_base.specs.clauses.ItineraryLaws.{exact_itinerary}
 use Rattle.ssim_publish.specs.Reach.{after_all}
 use Rattle.ssim_publish.proofs.trial.leading.Goals as goal
 

@@ -1,6 +1,6 @@
 -- What is ahead stays the same while bytes are fetched.
 use Rattle.std.proofs.Common.{◌≡◌, ◌≤◌, ◌+◌, ◌-◌, ℕ, Bool, List, length}
-use Rattle.ssim_records.specs.Blocks.{CountsOn}
+use Rattle.ssim_records.specs.clauses.Blocks.{CountsOn}
 use Rattle.ssim_records.specs.Device.{Reader}
 use Rattle.ssim_records.proofs.Framing.{Stays}
 use Rattle.ssim_records.proofs.blocks.next_block.Given as goal

@@ -1,7 +1,7 @@
 -- The blocks so far were fill, and those other than fill stay the same.
 use Rattle.std.proofs.Common.{◌≡◌, ◌≤◌, ◌+◌, ◌-◌, ◌*◌, ℕ, List, length}
 use Rattle.std.specs.Prelude.{nat_lt}
-use Rattle.ssim_records.specs.Blocks.{CountsOn, Fetches}
+use Rattle.ssim_records.specs.clauses.Blocks.{CountsOn, Fetches}
 use Rattle.ssim_records.specs.Device.{Reader}
 use Rattle.ssim_records.proofs.Framing.{Skipped}
 use Rattle.ssim_records.proofs.blocks.next_other.Given as goal

@@ -1,7 +1,7 @@
 -- The bytes that a fetch brings were the first of those that were left.
 use Rattle.std.proofs.Common.{ℕ, List, subst, arith}
 use Rattle.std.proofs.lemmas.Grind.{common_steps}
-use Rattle.ssim_records.specs.Blocks.{SameAhead}
+use Rattle.ssim_records.specs.clauses.Blocks.{SameAhead}
 use Rattle.ssim_records.proofs.Framing.{left_less}
 use Rattle.ssim_records.proofs.blocks.skip_rest.Goals as goal
 

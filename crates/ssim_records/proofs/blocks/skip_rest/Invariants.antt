@@ -1,6 +1,6 @@
 -- The bytes that came are those that the reader no longer has left.
 use Rattle.std.proofs.Common.{◌≡◌, ◌≤◌, ◌+◌, ◌-◌, ℕ}
-use Rattle.ssim_records.specs.Blocks.{CameOn, CountsOn, StaysLeft}
+use Rattle.ssim_records.specs.clauses.Blocks.{CameOn, CountsOn, StaysLeft}
 use Rattle.ssim_records.specs.Device.{Reader}
 use Rattle.ssim_records.proofs.blocks.skip_rest.Given as goal
 

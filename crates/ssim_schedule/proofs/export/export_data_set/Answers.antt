@@ -6,8 +6,8 @@ use Rattle.ssim_base.specs.Timetable.{days_of}
 use Rattle.ssim_base.proofs.ReadingBack.{reads_back_as}
 use Rattle.ssim_base.proofs.Results.{if_fault, on_ok}
 use Rattle.ssim_base.proofs.Whole.{same_export}
-use Rattle.ssim_schedule.specs.ExportResult.{Refuses, Writes}
-use Rattle.ssim_schedule.specs.Schedule.{days_in}
+use Rattle.ssim_schedule.specs.clauses.ExportResult.{Refuses, Writes}
+use Rattle.ssim_schedule.specs.clauses.Schedule.{days_in}
 use Rattle.ssim_schedule.specs.declared.export.ExportFault.{ExportFault}
 use Rattle.ssim_schedule.proofs.export.export_data_set.Goals as goal
 

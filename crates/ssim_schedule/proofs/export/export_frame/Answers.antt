@@ -2,7 +2,8 @@
 use Rattle.std.proofs.Common.{◌≡◌, None, Ok, Err, rules, ap, subst, ◌∙◌, arith}
 use Rattle.std.specs.List.{All}
 use Rattle.ssim_values.specs.Flight.{IsFlight}
-use Rattle.ssim_base.specs.Export.{chapter7, frame_from}
+use Rattle.ssim_base.specs.Export.{chapter7}
+use Rattle.ssim_base.specs.clauses.Export.{frame_from}
 use Rattle.ssim_schedule.specs.internal.Plan.{plan_bytes, plan_of, plan_refusal}
 use Rattle.ssim_schedule.specs.internal.Table.{Table, table_days}
 use Rattle.ssim_schedule.proofs.Planning.{export_is, fits, refusal_is, refuses}

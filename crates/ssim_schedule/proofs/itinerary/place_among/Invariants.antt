@@ -1,5 +1,5 @@
 use Rattle.std.proofs.Common.{◌≡◌, ◌+◌, drop}
-use Rattle.ssim_schedule.specs.PlacedLegs.{legs_before}
+use Rattle.ssim_schedule.specs.clauses.PlacedLegs.{legs_before}
 use Rattle.ssim_schedule.proofs.itinerary.place_among.Given as goal
 
 abbrev pub invariant-loop-place : goal.invariant-loop-place

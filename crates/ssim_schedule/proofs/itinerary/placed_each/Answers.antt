@@ -2,7 +2,7 @@
 use Rattle.std.proofs.Common.{◌≡◌, ℕ, ◌+◌, ◌-◌, [], ◌∷◌, ◌++◌, take, drop}
 use Rattle.std.proofs.Common.{append_assoc, sym, ap, ◌∙◌, arith}
 use Rattle.std.proofs.lemmas.List.{drop-drop, drop_more, length-drop, take_rest}
-use Rattle.ssim_schedule.specs.PlacedLegs.{legs_before, placed_each}
+use Rattle.ssim_schedule.specs.clauses.PlacedLegs.{legs_before, placed_each}
 use Rattle.ssim_base.specs.Timetable.{LegValue, Legs}
 use Rattle.ssim_schedule.proofs.itinerary.placed_each.Goals as goal
 

@@ -1,6 +1,6 @@
 -- The tails so far are the same, so the others decide.
 use Rattle.std.proofs.Common.{◌≡◌, ◌≤◌, drop, length}
-use Rattle.ssim_schedule.specs.ItineraryOrder.{tails_cmp}
+use Rattle.ssim_schedule.specs.clauses.ItineraryOrder.{tails_cmp}
 use Rattle.ssim_schedule.proofs.leg.order_of_tails.Given as goal
 
 abbrev pub invariant-loop-place : goal.invariant-loop-place

@@ -2,7 +2,7 @@
 use Rattle.std.proofs.Common.{List, sym, subst}
 use Rattle.std.specs.List.{All}
 use Rattle.ssim_records.specs.declared.record.Record.{Record}
-use Rattle.ssim_base.specs.Closed.{IsClosed}
+use Rattle.ssim_base.specs.clauses.Closed.{IsClosed}
 use Rattle.ssim_base.specs.ReadBack.{AreInOrder}
 use Rattle.ssim_base.specs.SavedBase.{IsBaseRecords}
 use Rattle.ssim_base.specs.Timetable.{days_of}

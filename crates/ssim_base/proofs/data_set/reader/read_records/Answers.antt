@@ -1,12 +1,13 @@
 -- From record to record, by the lemmas on what was read so far; each result that ends the reading
 -- is the outcome of the bytes.
 use Rattle.std.proofs.Common.{rules, ◌≡◌, ℕ, ◌+◌, Some, None, Ok, Err, false, [], ◌∷◌, ◌++◌, refl, sym, ap, subst, ◌∙◌, arith}
-use Rattle.ssim_records.specs.Blocks.{CountsOn, Fetches}
-use Rattle.ssim_records.specs.Reading.{Answer, Counts, FailsAs, GivesNext, HasNumber, HoldsFew, NeverEnds, Reading, ending_of, given}
+use Rattle.ssim_records.specs.clauses.Blocks.{CountsOn, Fetches}
+use Rattle.ssim_records.specs.clauses.Reading.{Answer, Counts, FailsAs, GivesNext, HasNumber}
+use Rattle.ssim_records.specs.clauses.Reading.{HoldsFew, NeverEnds, Reading, ending_of, given}
 use Rattle.ssim_records.proofs.Framing.{counts_twice}
 use Rattle.ssim_records.specs.declared.record.Record.{Record}
 use Rattle.ssim_base.specs.Base.{Done, kept}
-use Rattle.ssim_base.specs.Reading.{Came}
+use Rattle.ssim_base.specs.clauses.Reading.{Came}
 use Rattle.ssim_base.specs.internal.Reading.{AreGivenOf}
 use Rattle.ssim_base.specs.declared.fault.BaseFault.TheVariants.{Memory}
 use Rattle.ssim_base.proofs.BlocksAhead.{counted-first, fetched-first, fetched-on, while-open}

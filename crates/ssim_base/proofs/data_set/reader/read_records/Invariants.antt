@@ -1,9 +1,9 @@
 -- The records so far were read, and the bytes that are left have the others.
 use Rattle.std.proofs.Common.{◌≡◌, ℕ, ◌+◌, ◌-◌, ◌*◌, ◌≤◌, false, List, []}
 use Rattle.std.specs.Prelude.{None}
-use Rattle.ssim_records.specs.Blocks.{CountsOn, Fetches}
+use Rattle.ssim_records.specs.clauses.Blocks.{CountsOn, Fetches}
 use Rattle.ssim_records.specs.Device.{Reader}
-use Rattle.ssim_records.specs.Reading.{Reading}
+use Rattle.ssim_records.specs.clauses.Reading.{Reading}
 use Rattle.ssim_records.specs.declared.record.Record.{Record}
 use Rattle.ssim_base.specs.internal.DataSetReader.{IsSoFar}
 use Rattle.ssim_base.specs.declared.data_set.reader.DataSetReader.{DataSetReader}

@@ -1,8 +1,8 @@
 -- After a fault of the bytes those that are left are counted too. A fault of these names the record
 -- after the invalid one.
 use Rattle.std.proofs.Common.{◌≤◌, ℕ, ap, sym, subst, ◌∙◌}
-use Rattle.ssim_records.specs.Reading.{Reading}
-use Rattle.ssim_base.specs.Reading.{Came, NeverEnds}
+use Rattle.ssim_records.specs.clauses.Reading.{Reading}
+use Rattle.ssim_base.specs.clauses.Reading.{Came, NeverEnds}
 use Rattle.ssim_base.specs.internal.Reading.{Refuses}
 use Rattle.ssim_base.proofs.RestLemmas.{bytes-count, bytes-end, bytes-fail, names-first, names-own}
 use Rattle.ssim_base.proofs.RestLemmas.{names-rest, other-refused, rest-ends, rest-fails}

@@ -1,6 +1,7 @@
 -- A line is a block, LF and the rest, and a block spells only the record that it is written for.
 use Rattle.std.proofs.Common.{◌≡◌, length, None, rules, sym, subst, ◌∙◌, ap, arith}
-use Rattle.ssim_records.specs.Record.{HasSpelt, Spells}
+use Rattle.ssim_records.specs.clauses.Record.{HasSpelt}
+use Rattle.ssim_records.specs.Record.{Spells}
 use Rattle.ssim_records.specs.declared.record.Record.{Record}
 use Rattle.ssim_base.specs.SavedBase.{IsBare}
 use Rattle.ssim_base.proofs.SavedLines.{line-parts, line-refused, line-short, line-spelt, line-whole, read-ok}

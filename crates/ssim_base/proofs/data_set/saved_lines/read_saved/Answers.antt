@@ -2,7 +2,7 @@
 -- has the lines.
 use Rattle.std.proofs.Common.{List, ℕ, ◌≡◌, ◌++◌, ◌∷◌, [], Ok, false, true, length, take, reverse, rules, sym, ap, subst, ◌∙◌, arith}
 use Rattle.std.proofs.lemmas.List.{length-reverse}
-use Rattle.ssim_records.specs.InputBuffer.{Uses}
+use Rattle.ssim_records.specs.clauses.InputBuffer.{Uses}
 use Rattle.ssim_records.specs.declared.record.Record.{Record}
 use Rattle.ssim_records.proofs.InputBuffers.{gives_then}
 use Rattle.ssim_base.specs.internal.Acceptance.{HasAccepted, IsRecordRefused}

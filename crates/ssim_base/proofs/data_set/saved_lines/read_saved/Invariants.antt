@@ -2,7 +2,7 @@
 -- of records that complete a base.
 use Rattle.std.proofs.Common.{◌≡◌, ◌≤◌, ◌-◌, ◌++◌, ℕ, List, length, reverse}
 use Rattle.ssim_records.specs.Device.{Reader}
-use Rattle.ssim_records.specs.InputBuffer.{Gives, Input, Uses}
+use Rattle.ssim_records.specs.clauses.InputBuffer.{Gives, Input, Uses}
 use Rattle.ssim_records.specs.declared.record.Record.{Record}
 use Rattle.ssim_base.specs.SavedBase.{saved}
 use Rattle.ssim_base.specs.internal.Acceptance.{HasAccepted}

@@ -1,6 +1,6 @@
 -- The problem of the block is added: of its record, or why it spells none.
 use Rattle.std.proofs.Common.{◌≡◌, ◌∙◌, [], ◌∷◌, ◌++◌, Option, Some, None, true≢false, is_some, sym, ap, subst, append-nil}
-use Rattle.ssim_records.specs.Record.{HasSpelt}
+use Rattle.ssim_records.specs.clauses.Record.{HasSpelt}
 use Rattle.ssim_records.specs.declared.record.Record.{Record}
 use Rattle.ssim_base.specs.internal.Problems.{Finds}
 use Rattle.ssim_base.specs.declared.fault.BaseFault.{BaseFault}

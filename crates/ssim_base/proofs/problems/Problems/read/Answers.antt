@@ -1,7 +1,9 @@
 -- From block to block, by the lemmas on what was read so far.
 use Rattle.std.proofs.Common.{rules, ◌≡◌, ◌∙◌, ℕ, ◌+◌, Some, None, Ok, Err, false, [], ◌∷◌, ◌++◌, refl, sym, ap, subst, arith}
-use Rattle.ssim_records.specs.Blocks.{Fetches}
-use Rattle.ssim_records.specs.Reading.{BlockAnswer, CountsBlock, FailsAs, GivesNextBlock, HasNumber, HoldsFew, Reading, block_ending, without_block}
+use Rattle.ssim_records.specs.clauses.Blocks.{Fetches}
+use Rattle.ssim_records.specs.clauses.Reading.{BlockAnswer, CountsBlock, FailsAs, GivesNextBlock}
+use Rattle.ssim_records.specs.clauses.Reading.{HasNumber, HoldsFew, Reading, block_ending}
+use Rattle.ssim_records.specs.clauses.Reading.{without_block}
 use Rattle.ssim_records.specs.declared.fault.RecordFault.TheVariants.{Short}
 use Rattle.ssim_records.proofs.Framing.{counts_twice}
 use Rattle.ssim_base.specs.Problems.{missing_in, fault_at}

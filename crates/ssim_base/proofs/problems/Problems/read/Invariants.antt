@@ -1,9 +1,9 @@
 -- The problems of the blocks so far are found, and the bytes that are left have the others.
 use Rattle.std.proofs.Common.{◌≡◌, ℕ, ◌+◌, ◌-◌, ◌*◌, ◌≤◌, false, List, []}
 use Rattle.std.specs.Prelude.{None}
-use Rattle.ssim_records.specs.Blocks.{CountsOn, Fetches}
+use Rattle.ssim_records.specs.clauses.Blocks.{CountsOn, Fetches}
 use Rattle.ssim_records.specs.Device.{Reader}
-use Rattle.ssim_records.specs.Reading.{Reading}
+use Rattle.ssim_records.specs.clauses.Reading.{Reading}
 use Rattle.ssim_base.specs.declared.problems.ProblemReader.{ProblemReader}
 use Rattle.ssim_base.proofs.ProblemLemmas.{AreSoFar, ToldBlocks}
 use Rattle.ssim_base.proofs.problems.Problems.read.Given as goal

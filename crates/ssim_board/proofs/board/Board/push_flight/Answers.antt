@@ -1,6 +1,6 @@
 -- What the flight has on the board from one date more.
 use Rattle.std.proofs.Common.{◌∙◌, ◌≤◌, ◌<◌, ◌++◌, ℕ, List, subst, arith}
-use Rattle.ssim_board.specs.Movements.{first_date}
+use Rattle.ssim_board.specs.clauses.Movements.{first_date}
 use Rattle.ssim_board.specs.internal.PieceMovements.{date_end, piece_movements}
 use Rattle.ssim_board.specs.declared.movement.Movement.{Movement}
 use Rattle.ssim_listing.proofs.Ranges.{added_next}

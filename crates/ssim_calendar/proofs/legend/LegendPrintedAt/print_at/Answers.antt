@@ -4,7 +4,8 @@ use Rattle.std.proofs.Common.{slice_index_or, sym, ap, ap₂, subst}
 use Rattle.std.proofs.Math.ListN.{get_or-map}
 use Rattle.std.proofs.lemmas.List.{get_or_default}
 use Rattle.ssim_periods.proofs.SplitLemmas.{length-map-one}
-use Rattle.ssim_calendar.specs.Legend.{entry_lines, texts_of}
+use Rattle.ssim_calendar.specs.Legend.{entry_lines}
+use Rattle.ssim_calendar.specs.clauses.Legend.{texts_of}
 use Rattle.ssim_calendar.proofs.legend.LegendPrintedAt.print_at.Goals as goal
 
 -- the texts of the entry at a place

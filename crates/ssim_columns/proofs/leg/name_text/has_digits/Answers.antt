@@ -5,7 +5,7 @@ use Rattle.std.specs.List.{list_all}
 use Rattle.std.proofs.lemmas.List.Folds.{list_all-append}
 use Rattle.ssim_values.specs.Characters.{is_digit}
 use Rattle.ssim_columns.specs.Columns.{columns}
-use Rattle.ssim_columns.specs.Heads.{HasDigits}
+use Rattle.ssim_columns.specs.clauses.Heads.{HasDigits}
 use Rattle.ssim_columns.proofs.lemmas.Numbers.{digits_some, some_digits}
 use Rattle.ssim_columns.proofs.lemmas.Overlay.{slice_cut}
 use Rattle.ssim_columns.proofs.lemmas.Rows.{both_true}

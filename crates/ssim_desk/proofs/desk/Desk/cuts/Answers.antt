@@ -1,10 +1,11 @@
 -- The clauses of the latest schedule, stated of the desk.
 use Rattle.std.proofs.Common.{◌≡◌, ◌<◌, ◌≤◌, ◌∙◌, ap, sym, subst, arith}
 use Rattle.std.specs.Prelude.{ℕ, IsTrue}
-use Rattle.ssim_schedule.specs.Schedule.{cuts_in, days_in}
+use Rattle.ssim_schedule.specs.clauses.Schedule.{cuts_in, days_in}
 use Rattle.ssim_base.specs.Timetable.{on_day}
 use Rattle.ssim_values.specs.Flight.{IsFlight, is_suffix}
-use Rattle.ssim_desk.specs.Desk.{AreDeskPoints, ScheduledDesk, timetable_of}
+use Rattle.ssim_desk.specs.clauses.Desk.{AreDeskPoints, ScheduledDesk}
+use Rattle.ssim_desk.specs.Desk.{timetable_of}
 use Rattle.ssim_desk.proofs.Meant.{legs_after}
 use Rattle.ssim_desk.proofs.Points.{none_unnamed, within_bound}
 use Rattle.ssim_desk.proofs.desk.Desk.cuts.Goals as goal

@@ -2,10 +2,11 @@
 use Rattle.std.proofs.Common.{subst}
 use Rattle.ssim_base.specs.BaseSeen.{BaseSeen}
 use Rattle.ssim_base.proofs.Results.{if_fault, on_ok}
-use Rattle.ssim_schedule.specs.ExportResult.{RefusesBase, WritesBase}
-use Rattle.ssim_schedule.specs.Schedule.{days_in}
+use Rattle.ssim_schedule.specs.clauses.ExportResult.{RefusesBase, WritesBase}
+use Rattle.ssim_schedule.specs.clauses.Schedule.{days_in}
 use Rattle.ssim_held.specs.Entries.{AreEntries}
-use Rattle.ssim_desk.specs.Desk.{ScheduledDesk, days_of_desk}
+use Rattle.ssim_desk.specs.clauses.Desk.{ScheduledDesk}
+use Rattle.ssim_desk.specs.Desk.{days_of_desk}
 use Rattle.ssim_desk.proofs.Exports.{refuses, writes}
 use Rattle.ssim_desk.proofs.Meant.{writes_desk}
 use Rattle.ssim_desk.proofs.desk.Desk.export.Goals as goal

@@ -2,7 +2,8 @@ use Rattle.std.proofs.Common.{◌≡◌, ◌≤◌, ◌<◌, ◌∙◌, ap, subs
 use Rattle.std.specs.Prelude.{IsTrue}
 use Rattle.ssim_values.specs.Flight.{IsFlight, is_suffix}
 use Rattle.ssim_held.specs.Entries.{AreEntries}
-use Rattle.ssim_desk.specs.Desk.{ScheduledDesk, timetable_of}
+use Rattle.ssim_desk.specs.clauses.Desk.{ScheduledDesk}
+use Rattle.ssim_desk.specs.Desk.{timetable_of}
 use Rattle.ssim_desk.specs.Meaning.{Timetable}
 use Rattle.ssim_desk.proofs.Meant.{has_meaning, legs_after, only_meaning}
 use Rattle.ssim_desk.proofs.desk.Desk.itinerary.Goals as goal

@@ -2,7 +2,7 @@
 use Rattle.std.proofs.Common.{◌≡◌, ◌≤◌, inl, List, None, length, subst}
 use Rattle.std.specs.FinMap.{get}
 use Rattle.ssim_held.specs.Entries.{Entry, map_of}
-use Rattle.ssim_desk.specs.Desk.{ScheduledDesk}
+use Rattle.ssim_desk.specs.clauses.Desk.{ScheduledDesk}
 use Rattle.ssim_desk.specs.internal.Changes.{MergeBrings, IsChange, IsReplaced}
 use Rattle.ssim_desk.proofs.Changes.{replayed}
 use Rattle.ssim_desk.proofs.desk.Desk.merge.Goals as goal

@@ -2,7 +2,7 @@
 use Rattle.std.proofs.Common.{◌≤◌, ◌++◌, List, length, take, sym, subst, arith}
 use Rattle.ssim_base.specs.BaseSeen.{BaseSeen}
 use Rattle.ssim_held.specs.Entries.{DeskSeen, Entry}
-use Rattle.ssim_desk.specs.Desk.{ScheduledDesk}
+use Rattle.ssim_desk.specs.clauses.Desk.{ScheduledDesk}
 use Rattle.ssim_desk.specs.internal.Changes.{AreSchedules, IsReplay}
 use Rattle.ssim_desk.proofs.desk.Desk.replace_from.Goals as goal
 

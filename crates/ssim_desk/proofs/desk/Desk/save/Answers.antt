@@ -1,8 +1,8 @@
 -- What is written is what is held.
 use Rattle.std.proofs.Common.{subst}
-use Rattle.ssim_base.specs.Sinks.{Puts}
+use Rattle.ssim_base.specs.clauses.Sinks.{Puts}
 use Rattle.ssim_held.specs.File.{desk_file}
-use Rattle.ssim_desk.specs.Desk.{ScheduledDesk}
+use Rattle.ssim_desk.specs.clauses.Desk.{ScheduledDesk}
 use Rattle.ssim_desk.proofs.desk.Desk.save.Goals as goal
 
 pub returns-clause-puts : goal.returns-clause-puts

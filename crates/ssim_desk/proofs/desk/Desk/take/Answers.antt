@@ -4,7 +4,8 @@ use Rattle.ssim_text.specs.declared.reference.Reference.{Reference}
 use Rattle.ssim_held.specs.Entries.{AreEntries, AreRising, DeskSeen, Entry, map_of, state_of}
 use Rattle.ssim_held.specs.declared.fault.DeskFault.{DeskFault}
 use Rattle.ssim_held.proofs.Entries.{not_held}
-use Rattle.ssim_desk.specs.Desk.{ScheduledDesk, take_answer}
+use Rattle.ssim_desk.specs.clauses.Desk.{ScheduledDesk}
+use Rattle.ssim_desk.specs.Desk.{take_answer}
 use Rattle.ssim_desk.specs.internal.Changes.{IsOffer, IsReplaced}
 use Rattle.ssim_desk.specs.Steps.{IsNew, RefusesText, Takes}
 use Rattle.ssim_desk.specs.declared.desk.Took.{Took}

@@ -1,8 +1,8 @@
 -- The messages have acted on the timetable of the data set, and the export stands in its frame.
 use Rattle.std.proofs.Common.{◌≡◌, subst}
 use Rattle.ssim_base.specs.BaseSeen.{base_with}
-use Rattle.ssim_schedule.specs.ExportResult.{ReadsBackBase, RefusesBase, WritesBase}
-use Rattle.ssim_schedule.specs.Schedule.{days_in}
+use Rattle.ssim_schedule.specs.clauses.ExportResult.{ReadsBackBase, RefusesBase, WritesBase}
+use Rattle.ssim_schedule.specs.clauses.Schedule.{days_in}
 use Rattle.ssim_base.specs.Timetable.{itinerary}
 use Rattle.ssim_base.proofs.Results.{if_fault, on_ok}
 use Rattle.ssim_held.specs.Entries.{AreEntries, DeskSeen}

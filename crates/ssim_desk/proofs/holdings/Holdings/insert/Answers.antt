@@ -1,7 +1,7 @@
 -- The messages with one more are those of a desk.
 use Rattle.std.proofs.Common.{sym, subst}
 use Rattle.ssim_held.specs.Entries.{AreEntries, DeskSeen, IsEntry}
-use Rattle.ssim_held.specs.Ordered.{Belongs}
+use Rattle.ssim_held.specs.clauses.Ordered.{Belongs}
 use Rattle.ssim_desk.proofs.Changes.{inserted_entries}
 use Rattle.ssim_desk.proofs.holdings.Holdings.insert.Goals as goal
 

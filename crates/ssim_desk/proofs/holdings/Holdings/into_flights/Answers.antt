@@ -4,7 +4,7 @@ use Rattle.ssim_base.specs.BaseSeen.{base_with}
 use Rattle.ssim_base.specs.Timetable.{itinerary}
 use Rattle.ssim_base.proofs.Results.{if_ok}
 use Rattle.ssim_schedule.specs.FlightPieces.{divided_flights}
-use Rattle.ssim_schedule.specs.Schedule.{days_in}
+use Rattle.ssim_schedule.specs.clauses.Schedule.{days_in}
 use Rattle.ssim_schedule.proofs.Divisions.{divided_flights_agree}
 use Rattle.ssim_held.specs.Entries.{DeskSeen}
 use Rattle.ssim_desk.specs.Desk.{days_of_desk}

@@ -9,8 +9,8 @@ use Rattle.ssim_base.specs.Stations.{Row}
 use Rattle.ssim_base.specs.Timetable.{Days, itinerary}
 use Rattle.ssim_base.proofs.Calendars.{at-each_day}
 use Rattle.ssim_base.proofs.Results.{if_ok}
-use Rattle.ssim_schedule.specs.Dates.{AgreeBetween, itinerary_between}
-use Rattle.ssim_schedule.specs.Schedule.{days_in}
+use Rattle.ssim_schedule.specs.clauses.Dates.{AgreeBetween, itinerary_between}
+use Rattle.ssim_schedule.specs.clauses.Schedule.{days_in}
 use Rattle.ssim_schedule.proofs.Divisions.{divided_flights_agree}
 use Rattle.ssim_held.specs.Entries.{DeskSeen, Entry}
 use Rattle.ssim_desk.specs.Desk.{days_of_desk, timetable_of}

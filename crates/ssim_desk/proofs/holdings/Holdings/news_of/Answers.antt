@@ -2,7 +2,7 @@
 use Rattle.std.proofs.Common.{List, All, drop, subst, arith}
 use Rattle.std.proofs.lemmas.Grind.{common_steps}
 use Rattle.ssim_held.specs.Entries.{AreEntries, DeskSeen, Entry}
-use Rattle.ssim_held.specs.Ordered.{IsFirstNew, IsMerged}
+use Rattle.ssim_held.specs.clauses.Ordered.{IsFirstNew, IsMerged}
 use Rattle.ssim_held.proofs.Unions.{IsHeldIn}
 use Rattle.ssim_desk.proofs.Brought.{brings, united_none}
 use Rattle.ssim_desk.proofs.holdings.Holdings.news_of.Goals as goal

@@ -1,7 +1,7 @@
 -- What is written is what is held.
 use Rattle.std.proofs.Common.{OnOk, All, List, ℕ, ap, subst, ◌∙◌}
 use Rattle.ssim_base.specs.SavedBase.{IsBaseRecords}
-use Rattle.ssim_base.specs.Sinks.{Puts}
+use Rattle.ssim_base.specs.clauses.Sinks.{Puts}
 use Rattle.ssim_base.specs.Stations.{Row}
 use Rattle.ssim_held.specs.File.{CanBeSaved, IsRow, IsSpelled, desk_file}
 use Rattle.ssim_held.specs.Entries.{DeskSeen, Entry}

@@ -2,7 +2,7 @@
 use Rattle.std.proofs.Common.{rules, ◌≡◌, Result, Err, refl, sym, subst}
 use Rattle.ssim_text.specs.declared.reference.Reference.{Reference}
 use Rattle.ssim_held.specs.Entries.{DeskSeen, map_of, state_of}
-use Rattle.ssim_held.specs.Pages.{all_of}
+use Rattle.ssim_held.specs.clauses.Pages.{all_of}
 use Rattle.ssim_held.specs.declared.fault.DeskFault.{DeskFault}
 use Rattle.ssim_held.proofs.Resolving.{each_dated}
 use Rattle.ssim_desk.specs.Desk.{take_answer}

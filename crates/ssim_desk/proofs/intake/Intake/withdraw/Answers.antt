@@ -3,7 +3,7 @@ use Rattle.std.proofs.Common.{◌≡◌, ◌∙◌, suc, None, Some, drop, take,
 use Rattle.std.proofs.lemmas.List.Elements.{All-append, All-drop, All-take}
 use Rattle.std.specs.FinMap.{contains_key, get, remove}
 use Rattle.ssim_held.specs.Entries.{AreEntries, DeskSeen, IsEntry, map_of}
-use Rattle.ssim_held.specs.Pages.{all_of, position}
+use Rattle.ssim_held.specs.clauses.Pages.{all_of, position}
 use Rattle.ssim_held.proofs.Entries.{held_at, not_held}
 use Rattle.ssim_held.proofs.Withdrawing.{map_of_without, rising_without, without_absent}
 use Rattle.ssim_desk.proofs.intake.Intake.withdraw.Goals as goal

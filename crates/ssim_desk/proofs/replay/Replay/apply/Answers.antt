@@ -1,5 +1,5 @@
 use Rattle.std.proofs.Common.{◌≡◌, ◌≢◌, ◌+◌, ◌++◌, ◌∷◌, ◌%◌, ◌/◌, [], ◌∙◌, ap, sym, length, subst, arith, length-append}
-use Rattle.ssim_schedule.specs.Schedule.{Flown}
+use Rattle.ssim_schedule.specs.clauses.Schedule.{Flown}
 use Rattle.ssim_desk.specs.internal.Changes.{AreCheckpoints}
 use Rattle.ssim_desk.specs.Meaning.{left_by}
 use Rattle.ssim_desk.proofs.Trails.{after_more, kept_more, kept_none}

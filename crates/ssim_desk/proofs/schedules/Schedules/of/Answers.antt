@@ -1,7 +1,7 @@
 -- The messages are applied to the base's schedule, which is the first checkpoint.
 use Rattle.std.proofs.Common.{◌≡◌, ◌∷◌, [], ◌∙◌, refl, arith}
 use Rattle.std.proofs.lemmas.Grind.{common_steps}
-use Rattle.ssim_schedule.specs.Schedule.{cuts_in}
+use Rattle.ssim_schedule.specs.clauses.Schedule.{cuts_in}
 use Rattle.ssim_desk.specs.internal.Changes.{IsAfter}
 use Rattle.ssim_desk.proofs.Points.{begun_at}
 use Rattle.ssim_desk.proofs.Trails.{made}

@@ -1,7 +1,7 @@
 -- The bytes so far were used.
 use Rattle.std.proofs.Common.{◌≡◌, ◌-◌, ◌^◌, ℕ, List, length}
 use Rattle.ssim_records.specs.Device.{Reader}
-use Rattle.ssim_records.specs.InputBuffer.{Gives, Input, Uses}
+use Rattle.ssim_records.specs.clauses.InputBuffer.{Gives, Input, Uses}
 use Rattle.ssim_held.proofs.desk_file_reader.rest.read_rest.Given as goal
 
 pub record Goes {R : Type 0} (state : R → Reader) (bytes : List ℕ) (old new : Input) (before reader : R) : Type 0 where

@@ -1,6 +1,6 @@
 -- The number and the records are those of the base, or no base comes next.
 use Rattle.std.proofs.Common.{◌≡◌, List, Some, IfSome, length}
-use Rattle.ssim_records.specs.InputBuffer.{Uses, ahead}
+use Rattle.ssim_records.specs.clauses.InputBuffer.{Uses, ahead}
 use Rattle.ssim_records.specs.declared.record.Record.{Record}
 use Rattle.ssim_base.specs.SavedBase.{IsBaseRecords, saved}
 use Rattle.ssim_base.specs.declared.data_set.saved_lines.SavedFault.{SavedFault}

@@ -1,7 +1,7 @@
 -- The bytes so far are a line without LF, and were used.
 use Rattle.std.proofs.Common.{◌≡◌, ◌-◌, ◌^◌, ℕ, List, [], length}
 use Rattle.ssim_records.specs.Device.{Reader}
-use Rattle.ssim_records.specs.InputBuffer.{Gives, Input, Uses}
+use Rattle.ssim_records.specs.clauses.InputBuffer.{Gives, Input, Uses}
 use Rattle.ssim_text.specs.Bytes.{from}
 use Rattle.ssim_held.proofs.desk_file_reader.saved_records.take_line.Given as goal
 

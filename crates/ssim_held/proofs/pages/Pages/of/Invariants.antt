@@ -1,6 +1,6 @@
 -- The pages have the messages so far, and each has one.
 use Rattle.std.proofs.Common.{◌≡◌, All}
-use Rattle.ssim_held.specs.Pages.{IsFilled, all_of}
+use Rattle.ssim_held.specs.clauses.Pages.{IsFilled, all_of}
 use Rattle.ssim_held.proofs.pages.Pages.of.Given as goal
 
 abbrev pub invariant-loop-one : goal.invariant-loop-one

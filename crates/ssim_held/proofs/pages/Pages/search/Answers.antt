@@ -2,8 +2,8 @@
 use Rattle.std.proofs.Common.{◌≡◌, ◌∙◌, ◌+◌, ◌<◌, ◌≤◌, suc, List, [], Option, length, MatchOption, arith, sym, subst}
 use Rattle.std.proofs.lemmas.Option.{slice_get_within}
 use Rattle.ssim_held.specs.Entries.{Entry}
-use Rattle.ssim_held.specs.Ordered.{Belongs}
-use Rattle.ssim_held.specs.Pages.{all_of, position_on}
+use Rattle.ssim_held.specs.clauses.Ordered.{Belongs}
+use Rattle.ssim_held.specs.clauses.Pages.{all_of, position_on}
 use Rattle.ssim_held.proofs.OnPages.{gap_on, get_on, page_at, page_rising, read_as}
 use Rattle.ssim_held.proofs.pages.Pages.search.Goals as goal
 

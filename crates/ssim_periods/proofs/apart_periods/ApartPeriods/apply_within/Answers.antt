@@ -1,7 +1,8 @@
 -- What stays of the entries and what is added have the new values, and each day at most once.
 use Rattle.std.proofs.Common.{◌≡◌, ℕ, ◌+◌, ◌++◌, [], true, ap, subst, sym, refl, ◌∙◌}
 use Rattle.ssim_periods.specs.Calendar.{holds}
-use Rattle.ssim_periods.specs.Days.{counts_on, each_day, AddsOnly}
+use Rattle.ssim_periods.specs.Days.{counts_on, each_day}
+use Rattle.ssim_periods.specs.clauses.Days.{AddsOnly}
 use Rattle.ssim_periods.specs.Pieces.{held_on}
 use Rattle.ssim_periods.specs.internal.Apart.{value_in}
 use Rattle.ssim_periods.specs.internal.Parts.{added_parts, kept_parts}

@@ -4,7 +4,8 @@ use Rattle.std.specs.declared.alloc.Global.{Global}
 use Rattle.std.specs.declared.vec.Vec.{Vec}
 use Rattle.std.specs.List.{Contains}
 use Rattle.ssim_values.specs.Period.{DayRange}
-use Rattle.ssim_periods.specs.Days.{changed_by_each, each_day, ends_of}
+use Rattle.ssim_periods.specs.clauses.Days.{changed_by_each, ends_of}
+use Rattle.ssim_periods.specs.Days.{each_day}
 use Rattle.ssim_periods.specs.internal.Apart.{value_in, AreApart, AreCutsOf, AreOutcomes}
 use Rattle.ssim_periods.proofs.ApartLemmas.{index-week}
 use Rattle.ssim_periods.proofs.DayLemmas.{each_day-same}

@@ -1,7 +1,7 @@
 -- The list with one more period, whose days no other one holds.
 use Rattle.std.proofs.Common.{◌≡◌, ◌+◌, ap, subst, sym, ◌∙◌}
 use Rattle.std.specs.List.Sorted.{IsStrictlyIncreasing}
-use Rattle.ssim_periods.specs.Days.{AddsOnly}
+use Rattle.ssim_periods.specs.clauses.Days.{AddsOnly}
 use Rattle.ssim_periods.specs.internal.Splits.{with_cut}
 use Rattle.ssim_periods.proofs.ApartLemmas.{put-days, put-apart}
 use Rattle.ssim_periods.proofs.ApplyLemmas.{adds_only}

@@ -1,7 +1,8 @@
 -- All days of the period have the empty value, so the change makes one new value.
 use Rattle.std.proofs.Common.{◌≡◌, ◌+◌, ap, subst, sym, ◌∙◌, arith}
 use Rattle.ssim_periods.specs.Calendar.{holds}
-use Rattle.ssim_periods.specs.Days.{AddsOnly, changed_on}
+use Rattle.ssim_periods.specs.clauses.Days.{AddsOnly}
+use Rattle.ssim_periods.specs.Days.{changed_on}
 use Rattle.ssim_periods.proofs.ApartLemmas.{free-changed, free-kept, index-week}
 use Rattle.ssim_periods.proofs.apart_periods.ApartPeriods.replace.Goals as goal
 

@@ -1,7 +1,7 @@
 -- Each form adds only cuts of the period; those of the rows made from a list are cuts of the list.
 use Rattle.std.proofs.Common.{◌≡◌, ℕ, List, Option, ◌+◌, OnOk, OnSome, IfNone, ap, subst, sym, ◌∙◌, inl, inr}
 use Rattle.std.specs.List.{Contains}
-use Rattle.ssim_periods.specs.Days.{AddsOnly}
+use Rattle.ssim_periods.specs.clauses.Days.{AddsOnly}
 use Rattle.ssim_periods.specs.internal.Forms.{seen}
 use Rattle.ssim_periods.proofs.periods.Periods.apply.Goals as goal
 

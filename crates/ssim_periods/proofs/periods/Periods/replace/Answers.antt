@@ -2,7 +2,8 @@
 use Rattle.std.proofs.Common.{◌≡◌, ℕ, List, Option, ◌+◌, OnErr, OnOk, OnSome, IfNone, ap, subst, sym, ◌∙◌, inl, inr}
 use Rattle.std.specs.List.{Contains}
 use Rattle.ssim_periods.specs.Calendar.{holds}
-use Rattle.ssim_periods.specs.Days.{AddsOnly, changed_on}
+use Rattle.ssim_periods.specs.clauses.Days.{AddsOnly}
+use Rattle.ssim_periods.specs.Days.{changed_on}
 use Rattle.ssim_periods.specs.internal.Forms.{seen}
 use Rattle.ssim_periods.proofs.periods.Periods.replace.Goals as goal
 

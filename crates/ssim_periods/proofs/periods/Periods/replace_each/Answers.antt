@@ -2,7 +2,7 @@
 use Rattle.std.proofs.Common.{◌++◌, ap, subst, sym, ◌∙◌, arith}
 use Rattle.std.specs.List.{Contains}
 use Rattle.std.proofs.lemmas.List.Elements.{Contains-append_left}
-use Rattle.ssim_periods.specs.Days.{changed_by_each, ends_of}
+use Rattle.ssim_periods.specs.clauses.Days.{changed_by_each, ends_of}
 use Rattle.ssim_periods.proofs.EachLemmas.{changed-rest, ends-rest}
 use Rattle.ssim_periods.proofs.GatherLemmas.{drop-all}
 use Rattle.ssim_periods.proofs.periods.Periods.replace_each.Goals as goal

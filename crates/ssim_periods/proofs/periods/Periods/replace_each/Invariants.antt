@@ -1,7 +1,7 @@
 -- The changes from the next one on make of the values what all of them make of the old ones.
 use Rattle.std.proofs.Common.{◌≡◌, ℕ, ◌++◌, drop}
 use Rattle.std.specs.List.{Contains}
-use Rattle.ssim_periods.specs.Days.{changed_by_each, ends_of}
+use Rattle.ssim_periods.specs.clauses.Days.{changed_by_each, ends_of}
 use Rattle.ssim_periods.proofs.periods.Periods.replace_each.Given as goal
 
 abbrev pub invariant-loop-change : goal.invariant-loop-change

@@ -1,6 +1,6 @@
 -- The lines of the itineraries so far.
 use Rattle.std.proofs.Common.{◌≡◌, map, take}
-use Rattle.ssim_calendar.specs.Legend.{texts_of}
+use Rattle.ssim_calendar.specs.clauses.Legend.{texts_of}
 use Rattle.ssim_program.specs.print.Calendar.{legend_text}
 use Rattle.ssim_program.proofs.command.calendar.entries_of.Given as goal
 

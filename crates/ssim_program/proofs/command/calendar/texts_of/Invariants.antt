@@ -1,6 +1,6 @@
 -- The lines of the legs so far.
 use Rattle.std.proofs.Common.{◌≡◌, map, take}
-use Rattle.ssim_calendar.specs.Legend.{texts_of}
+use Rattle.ssim_calendar.specs.clauses.Legend.{texts_of}
 use Rattle.ssim_program.specs.print.Calendar.{legend_text}
 use Rattle.ssim_program.proofs.command.calendar.texts_of.Given as goal
 

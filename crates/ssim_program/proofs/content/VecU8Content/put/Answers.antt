@@ -1,6 +1,7 @@
 -- The bytes go to the buffer, which then goes to the sink.
 use Rattle.std.proofs.Common.{◌≡◌, List, ℕ, ◌++◌, ◌∙◌, ap, subst}
-use Rattle.ssim_base.specs.Sinks.{Breaks, GrowsUpTo}
+use Rattle.ssim_base.specs.Sinks.{Breaks}
+use Rattle.ssim_base.specs.clauses.Sinks.{GrowsUpTo}
 use Rattle.ssim_base.proofs.SinkLemmas.{all_fail, puts_all}
 use Rattle.ssim_program.proofs.content.VecU8Content.put.Goals as goal
 

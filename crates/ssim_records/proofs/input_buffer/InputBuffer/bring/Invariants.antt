@@ -1,7 +1,7 @@
 -- Nothing is used while bytes are fetched.
 use Rattle.std.proofs.Common.{◌≡◌, ◌≤◌, ◌-◌, []}
 use Rattle.ssim_records.specs.Device.{Reader}
-use Rattle.ssim_records.specs.InputBuffer.{Gives, Input, Uses}
+use Rattle.ssim_records.specs.clauses.InputBuffer.{Gives, Input, Uses}
 use Rattle.ssim_records.proofs.input_buffer.InputBuffer.bring.Given as goal
 
 pub record Goes {R : Type 0} (state : R → Reader) (old new : Input) (before reader : R) : Type 0 where

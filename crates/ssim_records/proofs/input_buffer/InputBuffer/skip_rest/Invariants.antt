@@ -1,7 +1,7 @@
 -- The reader gives the bytes that are left.
 use Rattle.std.proofs.Common.{◌≡◌, ◌-◌}
 use Rattle.ssim_records.specs.Device.{Reader}
-use Rattle.ssim_records.specs.InputBuffer.{Gives, Input}
+use Rattle.ssim_records.specs.clauses.InputBuffer.{Gives, Input}
 use Rattle.ssim_records.proofs.input_buffer.InputBuffer.skip_rest.Given as goal
 
 pub record Goes {R : Type 0} (state : R → Reader) (old new : Input) (before reader : R) : Type 0 where

@@ -1,6 +1,6 @@
 -- Each result is that of the next block that is not fill.
 use Rattle.std.proofs.Common.{◌≡◌, Ok, true, take, drop, refl, rules}
-use Rattle.ssim_records.specs.Reading.{Reading}
+use Rattle.ssim_records.specs.clauses.Reading.{Reading}
 use Rattle.ssim_records.proofs.Readings.{block_fault, gives_placed, gives_refusal, refused_holds}
 use Rattle.ssim_records.proofs.records.Records.answer.Goals.{in-Ok, in-Err-read}
 use Rattle.ssim_records.proofs.records.Records.answer.Goals as goal

@@ -1,6 +1,6 @@
 -- The block that is returned is the next one that is not fill.
 use Rattle.std.proofs.Common.{◌≡◌, Ok, true, take, drop, refl, rules}
-use Rattle.ssim_records.specs.Reading.{Reading}
+use Rattle.ssim_records.specs.clauses.Reading.{Reading}
 use Rattle.ssim_records.proofs.Readings.{block_found}
 use Rattle.ssim_records.proofs.records.Records.block.Goals as goal
 

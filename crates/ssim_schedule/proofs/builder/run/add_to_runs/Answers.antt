@@ -4,10 +4,11 @@ use Rattle.std.specs.declared.alloc.Global.{Global}
 use Rattle.std.specs.declared.vec.Vec.{Vec}
 use Rattle.ssim_values.specs.Period.{DayRange}
 use Rattle.ssim_periods.specs.Calendar.{holds}
-use Rattle.ssim_periods.specs.Days.{Seen, changed_on, ends_of}
+use Rattle.ssim_periods.specs.clauses.Days.{Seen, ends_of}
+use Rattle.ssim_periods.specs.Days.{changed_on}
 use Rattle.ssim_periods.proofs.EachLemmas.{changed-last}
 use Rattle.ssim_base.specs.Timetable.{Days, Legs}
-use Rattle.ssim_schedule.specs.PlacedLegs.{placed_each}
+use Rattle.ssim_schedule.specs.clauses.PlacedLegs.{placed_each}
 use Rattle.ssim_schedule.specs.internal.Runs.{Run, with_runs}
 use Rattle.ssim_schedule.proofs.RunLemmas.{adds-before, adds-more}
 use Rattle.ssim_schedule.proofs.builder.run.add_to_runs.Goals as goal

@@ -1,6 +1,6 @@
 -- Once no run is left, the cuts are those that the runs may leave.
 use Rattle.std.proofs.Common.{List, Contains, subst}
-use Rattle.ssim_periods.specs.Days.{Seen}
+use Rattle.ssim_periods.specs.clauses.Days.{Seen}
 use Rattle.ssim_base.specs.Timetable.{Legs}
 use Rattle.ssim_schedule.specs.internal.Runs.{Run, with_runs}
 use Rattle.ssim_schedule.proofs.builder.run.make_room.Goals as goal

@@ -1,7 +1,7 @@
 -- A run has these legs, if the test of equal itineraries passes.
 use Rattle.std.proofs.Common.{sym, ◌∙◌}
 use Rattle.ssim_base.proofs.Results.{if_ok}
-use Rattle.ssim_base.specs.ItineraryLaws.{exact_itinerary}
+use Rattle.ssim_base.specs.clauses.ItineraryLaws.{exact_itinerary}
 use Rattle.ssim_schedule.proofs.builder.run.take_legs.Goals as goal
 
 pub returns-then-is_of : goal.returns-then-is_of

@@ -1,7 +1,7 @@
 -- The parts so far are all days of the period before the next part.
 use Rattle.std.proofs.Common.{◌≡◌, ◌+◌, ◌<◌, ◌≤◌, IsTrue, inl, arith, sym, subst, ◌∙◌}
 use Rattle.ssim_periods.specs.Calendar.{holds}
-use Rattle.ssim_schedule.specs.Acts.{is_point_of}
+use Rattle.ssim_schedule.specs.clauses.Acts.{is_point_of}
 use Rattle.ssim_schedule.specs.internal.ActionParts.{before}
 use Rattle.ssim_schedule.proofs.Acts.{Comes, counts_end, counts_next, counts_small, counts_start, cuts_next, days_end, days_next, days_start, next_is_point, parts_come, start_point, uniform_part}
 use Rattle.ssim_schedule.proofs.effect.division.act_on_parts.Goals as goal

@@ -1,6 +1,7 @@
 use Rattle.std.proofs.Common.{◌≡◌, ◌≤◌, ◌+◌, ◌-◌, IsTrue}
 use Rattle.ssim_schedule.specs.internal.ActionParts.{AddsPoints, before, counts_by}
-use Rattle.ssim_schedule.specs.Acts.{after_on, changed_by, is_point_of}
+use Rattle.ssim_schedule.specs.Acts.{after_on}
+use Rattle.ssim_schedule.specs.clauses.Acts.{changed_by, is_point_of}
 use Rattle.ssim_schedule.proofs.effect.division.act_on_parts.Given as goal
 
 abbrev pub invariant-loop-at : goal.invariant-loop-at

@@ -1,7 +1,7 @@
 use Rattle.std.proofs.Common.{◌≡◌, ◌⊎◌, ◌≤◌, ◌<◌, ◌-◌, ℕ, IsTrue, slice_index_or}
 use Rattle.std.specs.List.{list_any}
 use Rattle.ssim_schedule.specs.internal.ActionParts.{IsSteady}
-use Rattle.ssim_schedule.specs.Acts.{divides, is_named}
+use Rattle.ssim_schedule.specs.clauses.Acts.{divides, is_named}
 use Rattle.ssim_base.specs.Stations.{Row}
 use Rattle.ssim_schedule.proofs.effect.division_points.next_point.Given as goal
 

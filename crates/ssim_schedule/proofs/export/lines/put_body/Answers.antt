@@ -3,7 +3,7 @@ use Rattle.std.proofs.Common.{◌≡◌, ◌-◌, ◌++◌, Result, Ok, replicat
 use Rattle.std.specs.List.{flat_map}
 use Rattle.ssim_records.specs.Frames.{fill}
 use Rattle.ssim_base.specs.Export.{line, numbered, section_bytes}
-use Rattle.ssim_base.specs.Sinks.{GrowsUpTo}
+use Rattle.ssim_base.specs.clauses.Sinks.{GrowsUpTo}
 use Rattle.ssim_base.proofs.SinkLemmas.{fails, next_fails, next_put, none_put, puts_then}
 use Rattle.ssim_schedule.specs.internal.Plan.{plan_count, plan_records}
 use Rattle.ssim_schedule.proofs.Puts.{body-split}

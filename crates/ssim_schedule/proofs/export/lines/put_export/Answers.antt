@@ -2,8 +2,8 @@
 use Rattle.std.proofs.Common.{◌++◌, [], refl}
 use Rattle.std.proofs.lemmas.List.{append-nil}
 use Rattle.ssim_records.specs.declared.record.Record.TheVariants.{Trailer}
-use Rattle.ssim_base.specs.Export.{frame_from}
-use Rattle.ssim_base.specs.Sinks.{GrowsUpTo}
+use Rattle.ssim_base.specs.clauses.Export.{frame_from}
+use Rattle.ssim_base.specs.clauses.Sinks.{GrowsUpTo}
 use Rattle.ssim_base.proofs.SinkLemmas.{all_fail, from_empty, if_ok, next_breaks, next_put, puts_all}
 use Rattle.ssim_schedule.specs.internal.Plan.{alone_bytes, plan_bytes}
 use Rattle.ssim_schedule.proofs.Puts.{four_sections}

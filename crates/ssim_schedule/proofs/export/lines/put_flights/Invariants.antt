@@ -3,7 +3,7 @@
 use Rattle.std.proofs.Common.{◌≡◌, ◌≤◌, ◌+◌, ◌++◌, length}
 use Rattle.std.specs.List.{All}
 use Rattle.std.specs.Vec.Iter.{into_iter_items, into_iter_len}
-use Rattle.ssim_base.specs.Sinks.{GrowsUpTo}
+use Rattle.ssim_base.specs.clauses.Sinks.{GrowsUpTo}
 use Rattle.ssim_schedule.specs.internal.Plan.{HasWritablePieces, plan_count, plan_lines}
 use Rattle.ssim_schedule.proofs.export.lines.put_flights.Given as goal
 

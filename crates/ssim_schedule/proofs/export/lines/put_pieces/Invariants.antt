@@ -2,7 +2,7 @@
 -- have.
 use Rattle.std.proofs.Common.{◌≡◌, ◌+◌, ◌++◌, drop, take}
 use Rattle.std.specs.List.{All}
-use Rattle.ssim_base.specs.Sinks.{GrowsUpTo}
+use Rattle.ssim_base.specs.clauses.Sinks.{GrowsUpTo}
 use Rattle.ssim_schedule.specs.internal.Plan.{HasWritableLegs, piece_lines, pieces_count}
 use Rattle.ssim_schedule.proofs.export.lines.put_pieces.Given as goal
 

@@ -2,7 +2,7 @@
 use Rattle.std.proofs.Common.{◌≡◌, ◌+◌, ◌++◌, drop, take}
 use Rattle.std.specs.List.{All}
 use Rattle.ssim_records.specs.Segment.{IsTail}
-use Rattle.ssim_base.specs.Sinks.{GrowsUpTo}
+use Rattle.ssim_base.specs.clauses.Sinks.{GrowsUpTo}
 use Rattle.ssim_schedule.specs.internal.Plan.{tail_lines}
 use Rattle.ssim_schedule.proofs.export.lines.put_tails.Given as goal
 

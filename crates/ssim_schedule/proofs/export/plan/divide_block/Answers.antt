@@ -2,7 +2,7 @@
 use Rattle.std.proofs.Common.{◌≡◌, ◌∷◌, length, ap, ◌∙◌, arith}
 use Rattle.std.specs.Vec.Iter.{into_iter_items}
 use Rattle.ssim_values.specs.Flight.{IsFlight}
-use Rattle.ssim_periods.specs.Days.{Seen}
+use Rattle.ssim_periods.specs.clauses.Days.{Seen}
 use Rattle.ssim_base.specs.Export.{pieces}
 use Rattle.ssim_base.specs.Timetable.{Legs}
 use Rattle.ssim_base.proofs.Each.{all_left}

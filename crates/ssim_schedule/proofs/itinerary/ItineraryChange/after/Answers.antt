@@ -1,6 +1,6 @@
 -- If there are no legs, those of the itinerary are unchanged.
 use Rattle.std.proofs.Common.{◌≡◌, [], sym, ap, ◌∙◌}
-use Rattle.ssim_schedule.specs.PlacedLegs.{placed_each}
+use Rattle.ssim_schedule.specs.clauses.PlacedLegs.{placed_each}
 use Rattle.ssim_base.specs.Timetable.{Legs}
 use Rattle.ssim_base.proofs.Results.{if_ok}
 use Rattle.ssim_schedule.proofs.PlacedLegLemmas.{placed_alone}

@@ -1,7 +1,7 @@
 -- Equal itineraries have one hash, so those with different hashes are different.
 use Rattle.std.proofs.Common.{◌≡◌, ◌≢◌, ◌%◌, ℕ, true, false, nat_eq, refl, ap, sym, ◌∙◌, eq-eqb, eqb-true}
 use Rattle.ssim_base.specs.Export.{same_itinerary}
-use Rattle.ssim_base.specs.ItineraryLaws.{exact_itinerary}
+use Rattle.ssim_base.specs.clauses.ItineraryLaws.{exact_itinerary}
 use Rattle.ssim_schedule.specs.internal.SharedLegs.{hash_of}
 use Rattle.ssim_base.specs.Timetable.{Legs}
 use Rattle.ssim_schedule.proofs.itinerary.ItineraryValue.same.Goals as goal

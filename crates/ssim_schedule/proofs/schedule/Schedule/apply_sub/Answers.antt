@@ -1,7 +1,8 @@
 -- An action has at most twenty leg lines, so its new legs are numbered in order.
 use Rattle.std.proofs.Common.{ap, subst, ◌∙◌}
-use Rattle.ssim_schedule.specs.Acts.{AddsPointsOf, itinerary_after}
-use Rattle.ssim_schedule.specs.Schedule.{Flown, cuts_in, days_in}
+use Rattle.ssim_schedule.specs.clauses.Acts.{AddsPointsOf}
+use Rattle.ssim_schedule.specs.Acts.{itinerary_after}
+use Rattle.ssim_schedule.specs.clauses.Schedule.{Flown, cuts_in, days_in}
 use Rattle.ssim_schedule.specs.internal.Table.{table_cuts}
 use Rattle.ssim_base.specs.Timetable.{on_day}
 use Rattle.ssim_schedule.proofs.InOrder.{date_after, timetable-kept}

@@ -1,10 +1,11 @@
 -- The export is written in the frame, and reads back if it was written.
 use Rattle.std.proofs.Common.{◌≡◌, ℕ, List, Result, OnOk, IfErr, ap, subst, ◌∙◌}
-use Rattle.ssim_base.specs.Export.{ExportRefusal, Frame, chapter7, frame_from}
-use Rattle.ssim_base.specs.ReadBack.{CanReadBack}
+use Rattle.ssim_base.specs.Export.{ExportRefusal, Frame, chapter7}
+use Rattle.ssim_base.specs.clauses.Export.{frame_from}
+use Rattle.ssim_base.specs.clauses.ReadBack.{CanReadBack}
 use Rattle.ssim_base.proofs.SinkLemmas.{if_both}
-use Rattle.ssim_schedule.specs.ExportResult.{Refuses, Writes}
-use Rattle.ssim_schedule.specs.Schedule.{Flown, days_in}
+use Rattle.ssim_schedule.specs.clauses.ExportResult.{Refuses, Writes}
+use Rattle.ssim_schedule.specs.clauses.Schedule.{Flown, days_in}
 use Rattle.ssim_schedule.specs.internal.Table.{table_days}
 use Rattle.ssim_schedule.proofs.schedule.Schedule.export_in.Goals as goal
 

@@ -1,7 +1,7 @@
 -- The records are those of the base.
 use Rattle.std.proofs.Common.{[], List, None, sym, ap, subst, ◌∙◌}
 use Rattle.ssim_records.specs.declared.record.Record.{Record}
-use Rattle.ssim_schedule.specs.DivisionPoints.{AreAtPoints}
+use Rattle.ssim_schedule.specs.clauses.DivisionPoints.{AreAtPoints}
 use Rattle.ssim_schedule.specs.internal.Table.{Table, table_cuts, table_days}
 use Rattle.ssim_base.specs.Timetable.{days_of, itinerary}
 use Rattle.ssim_base.proofs.Calendars.{length-each_day}

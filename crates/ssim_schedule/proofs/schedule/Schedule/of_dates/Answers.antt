@@ -2,7 +2,7 @@
 use Rattle.std.proofs.Common.{◌&&◌, nat_le, [], List, Some, ap, subst, ◌∙◌}
 use Rattle.ssim_periods.specs.Days.{each_day}
 use Rattle.ssim_records.specs.declared.record.Record.{Record}
-use Rattle.ssim_schedule.specs.Dates.{itinerary_between}
+use Rattle.ssim_schedule.specs.clauses.Dates.{itinerary_between}
 use Rattle.ssim_schedule.specs.internal.Table.{table_days}
 use Rattle.ssim_base.specs.Timetable.{days_of}
 use Rattle.ssim_base.specs.ReadBack.{AreInOrder}

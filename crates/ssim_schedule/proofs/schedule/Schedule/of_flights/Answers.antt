@@ -4,10 +4,11 @@ use Rattle.std.specs.List.{filter}
 use Rattle.ssim_periods.specs.Days.{each_day}
 use Rattle.ssim_records.specs.declared.record.Record.{Record}
 use Rattle.ssim_values.specs.Flight.{FlightNumber}
-use Rattle.ssim_schedule.specs.DivisionPoints.{AreAtPoints}
+use Rattle.ssim_schedule.specs.clauses.DivisionPoints.{AreAtPoints}
 use Rattle.ssim_schedule.specs.internal.FlightSet.{is_marked, is_record_of}
 use Rattle.ssim_schedule.specs.internal.Table.{table_cuts, table_days}
-use Rattle.ssim_base.specs.Timetable.{days_of, is_among, itinerary_among}
+use Rattle.ssim_base.specs.Timetable.{days_of, is_among}
+use Rattle.ssim_base.specs.clauses.Timetable.{itinerary_among}
 use Rattle.ssim_base.specs.ReadBack.{AreInOrder}
 use Rattle.ssim_base.proofs.Calendars.{length-each_day}
 use Rattle.ssim_schedule.proofs.FlightSets.{all_points, days_kept, no_points}

@@ -2,7 +2,7 @@
 use Rattle.std.proofs.Common.{subst}
 use Rattle.ssim_text.specs.Message.{MessageValue}
 use Rattle.ssim_text.specs.Canonical.{canonical}
-use Rattle.ssim_text.specs.Bounds.{IsReferenceBounded}
+use Rattle.ssim_text.specs.clauses.Bounds.{IsReferenceBounded}
 use Rattle.ssim_text.proofs.BoundsLemmas.{spelled_reference_bounded}
 use Rattle.ssim_text.proofs.message.Message.reference.Goals as goal
 

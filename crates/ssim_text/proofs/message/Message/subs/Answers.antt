@@ -2,7 +2,7 @@
 use Rattle.std.proofs.Common.{subst}
 use Rattle.ssim_text.specs.Message.{MessageValue}
 use Rattle.ssim_text.specs.Canonical.{canonical}
-use Rattle.ssim_text.specs.Bounds.{AreSubsBounded}
+use Rattle.ssim_text.specs.clauses.Bounds.{AreSubsBounded}
 use Rattle.ssim_text.proofs.BoundsLemmas.{spelled_subs_bounded}
 use Rattle.ssim_text.proofs.message.Message.subs.Goals as goal
 

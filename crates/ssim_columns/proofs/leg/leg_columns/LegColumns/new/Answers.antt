@@ -1,7 +1,8 @@
 -- Stations, then times, then equipment: the columns are valid once all three are written.
 use Rattle.std.proofs.Common.{◌∙◌, ap}
 use Rattle.ssim_columns.specs.Leg.{AreLegColumns}
-use Rattle.ssim_columns.specs.LegParts.{equipment_fields, new_leg, with_equipment, with_times}
+use Rattle.ssim_columns.specs.clauses.LegParts.{equipment_fields}
+use Rattle.ssim_columns.specs.LegParts.{new_leg, with_equipment, with_times}
 use Rattle.ssim_columns.proofs.lemmas.LegChanges.{AreBesideTimes, equipment_stands, stations_stand, times_stand}
 use Rattle.ssim_columns.proofs.leg.leg_columns.LegColumns.new.Goals as goal
 

@@ -1,5 +1,5 @@
 -- Valid columns with other equipment are valid.
-use Rattle.ssim_columns.specs.LegParts.{equipment_fields}
+use Rattle.ssim_columns.specs.clauses.LegParts.{equipment_fields}
 use Rattle.ssim_columns.proofs.lemmas.LegChanges.{equipment_stands}
 use Rattle.ssim_columns.proofs.leg.leg_columns.LegColumns.with_equipment.Goals as goal
 

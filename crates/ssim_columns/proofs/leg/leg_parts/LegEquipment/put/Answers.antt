@@ -1,6 +1,6 @@
 -- The four texts are written one after another, and no two of them touch.
 use Rattle.std.proofs.Common.{◌≡◌, ◌∙◌, refl, sym, subst}
-use Rattle.ssim_columns.specs.LegParts.{ChangesEquipment, equipment_fields}
+use Rattle.ssim_columns.specs.clauses.LegParts.{ChangesEquipment, equipment_fields}
 use Rattle.ssim_columns.proofs.lemmas.LegChanges.{equipment_changes, equipment_writes, equipment_written}
 use Rattle.ssim_columns.proofs.lemmas.Overlay.{written}
 use Rattle.ssim_columns.proofs.leg.leg_parts.LegEquipment.put.Goals as goal

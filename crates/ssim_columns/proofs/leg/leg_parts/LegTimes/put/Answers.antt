@@ -1,6 +1,6 @@
 -- The five texts are written one after another, and no two of them touch.
 use Rattle.std.proofs.Common.{◌≡◌, ◌∙◌, refl, sym, subst}
-use Rattle.ssim_columns.specs.LegParts.{ChangesTimes}
+use Rattle.ssim_columns.specs.clauses.LegParts.{ChangesTimes}
 use Rattle.ssim_columns.proofs.lemmas.LegChanges.{time_writes, times_change, times_written}
 use Rattle.ssim_columns.proofs.lemmas.Overlay.{written}
 use Rattle.ssim_columns.proofs.leg.leg_parts.LegTimes.put.Goals as goal

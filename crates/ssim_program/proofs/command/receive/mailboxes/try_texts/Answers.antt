@@ -1,7 +1,7 @@
 -- The next text is tried, of those that are left.
 use Rattle.std.proofs.Common.{◌≡◌, ◌∙◌, ◌∷◌, ◌++◌, [], List, Ok, Option, ap, option_map, refl, sym, subst}
 use Rattle.std.specs.Option.{option_to_list}
-use Rattle.ssim_mailbox.specs.Mail.{mail_of}
+use Rattle.ssim_mailbox.specs.clauses.Mail.{mail_of}
 use Rattle.ssim_mailbox.specs.Texts.{MailText, texts_in}
 use Rattle.ssim_mailbox.specs.declared.text.Text as mailbox
 use Rattle.ssim_program.specs.Receiving.{TriesEach}

@@ -1,7 +1,8 @@
 -- The texts of the name and the dates are the fields of the written spelling.
 use Rattle.std.proofs.Common.{[], ◌∷◌}
 use Rattle.std.specs.Prelude.{codes, slice_range}
-use Rattle.ssim_columns.specs.Leg.{dates_texts, name_texts}
+use Rattle.ssim_columns.specs.clauses.Leg.{dates_texts}
+use Rattle.ssim_columns.specs.Leg.{name_texts}
 use Rattle.ssim_columns.specs.Numbers.{digits}
 use Rattle.ssim_columns.proofs.lemmas.Places.{period_joined}
 use Rattle.ssim_records.proofs.record.leg.LegRecord.write_over.Goals as goal

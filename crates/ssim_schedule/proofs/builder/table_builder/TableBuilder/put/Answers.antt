@@ -1,10 +1,10 @@
 -- The current flight is changed; or `put_other` puts the legs.
 use Rattle.std.proofs.Common.{sym, ◌∙◌}
 use Rattle.ssim_periods.specs.Calendar.{holds}
-use Rattle.ssim_periods.specs.Days.{Seen}
+use Rattle.ssim_periods.specs.clauses.Days.{Seen}
 use Rattle.ssim_base.proofs.Results.{on_ok}
 use Rattle.ssim_base.specs.Timetable.{Legs}
-use Rattle.ssim_schedule.specs.PlacedLegs.{placed_each}
+use Rattle.ssim_schedule.specs.clauses.PlacedLegs.{placed_each}
 use Rattle.ssim_schedule.specs.internal.Runs.{with_runs}
 use Rattle.ssim_schedule.proofs.TableBuilderLemmas.{cuts-head, days-head}
 use Rattle.ssim_schedule.proofs.builder.table_builder.TableBuilder.put.Goals as goal

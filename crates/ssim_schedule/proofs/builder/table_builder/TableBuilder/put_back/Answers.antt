@@ -1,7 +1,7 @@
 -- The entry of the current flight is put into the others.
 use Rattle.std.proofs.Common.{◌≡◌, ℕ, Bool, List, Contains, Option, Some, nat_eq, sym, subst, ◌∙◌}
 use Rattle.ssim_values.specs.Flight.{FlightNumber}
-use Rattle.ssim_periods.specs.Days.{Seen}
+use Rattle.ssim_periods.specs.clauses.Days.{Seen}
 use Rattle.ssim_base.proofs.Results.{on_ok}
 use Rattle.ssim_base.specs.ReadBack.{place_of}
 use Rattle.ssim_base.specs.Timetable.{Legs}

@@ -4,11 +4,12 @@ use Rattle.std.proofs.Common.{◌∙◌}
 use Rattle.ssim_values.specs.Flight.{FlightNumber}
 use Rattle.ssim_values.specs.Period.{DayRange}
 use Rattle.ssim_periods.specs.Calendar.{holds}
-use Rattle.ssim_periods.specs.Days.{AddsOnly, Seen, changed_on}
+use Rattle.ssim_periods.specs.clauses.Days.{AddsOnly, Seen}
+use Rattle.ssim_periods.specs.Days.{changed_on}
 use Rattle.ssim_base.proofs.Results.{on_ok}
 use Rattle.ssim_base.specs.ReadBack.{place_of}
 use Rattle.ssim_base.specs.Timetable.{Days, Legs}
-use Rattle.ssim_schedule.specs.PlacedLegs.{placed_each}
+use Rattle.ssim_schedule.specs.clauses.PlacedLegs.{placed_each}
 use Rattle.ssim_schedule.specs.internal.Runs.{Run, with_runs}
 use Rattle.ssim_schedule.specs.internal.Table.{AddsOnlyAt, Table, table_cuts}
 use Rattle.ssim_schedule.specs.internal.TableBuilder.{table_of, with_current}

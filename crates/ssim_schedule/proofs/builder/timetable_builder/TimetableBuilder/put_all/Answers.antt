@@ -2,7 +2,7 @@
 use Rattle.std.proofs.Common.{◌≡◌, ◌<◌, ◌-◌, ℕ, List, ◌++◌, drop, length, sym, subst, arith}
 use Rattle.std.proofs.lemmas.List.{drop_all}
 use Rattle.ssim_records.specs.declared.record.Record.{Record}
-use Rattle.ssim_base.specs.Closed.{IsClosed}
+use Rattle.ssim_base.specs.clauses.Closed.{IsClosed}
 use Rattle.ssim_schedule.specs.internal.TimetableBuilder.{IsBuilt}
 use Rattle.ssim_schedule.proofs.TimetableBuilderLemmas.{drop-before}
 use Rattle.ssim_schedule.proofs.builder.timetable_builder.TimetableBuilder.put_all.Goals as goal

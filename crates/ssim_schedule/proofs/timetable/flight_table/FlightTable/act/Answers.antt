@@ -3,7 +3,7 @@
 use Rattle.std.proofs.Common.{nat_eq, if◌then◌else◌, ap, refl, subst, ◌∙◌}
 use Rattle.ssim_periods.specs.Calendar.{holds}
 use Rattle.ssim_periods.specs.Days.{changed_on}
-use Rattle.ssim_schedule.specs.Acts.{acted_on}
+use Rattle.ssim_schedule.specs.clauses.Acts.{acted_on}
 use Rattle.ssim_schedule.specs.Effect.{effect}
 use Rattle.ssim_schedule.specs.internal.ActionParts.{AddsPoints}
 use Rattle.ssim_base.specs.ReadBack.{place_of}

@@ -2,7 +2,8 @@
 use Rattle.std.proofs.Common.{◌≡◌, ℕ, ◌+◌, List, get_or, set, refl, sym, ap, subst, ◌∙◌}
 use Rattle.std.proofs.lemmas.List.{get_or_default}
 use Rattle.ssim_periods.specs.Calendar.{holds}
-use Rattle.ssim_periods.specs.Days.{AddsOnly, Seen, changed_on, counts_on}
+use Rattle.ssim_periods.specs.clauses.Days.{AddsOnly, Seen}
+use Rattle.ssim_periods.specs.Days.{changed_on, counts_on}
 use Rattle.ssim_base.specs.Timetable.{Legs}
 use Rattle.ssim_base.specs.ReadBack.{place_of}
 use Rattle.ssim_base.proofs.Results.{if_ok, on_ok}

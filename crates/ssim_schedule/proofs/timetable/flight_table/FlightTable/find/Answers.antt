@@ -1,6 +1,6 @@
 -- What a flight has is in its block, in the entry that the search finds there.
 use Rattle.std.proofs.Common.{[], sym, ap, subst, ◌∙◌}
-use Rattle.ssim_periods.specs.Days.{Seen}
+use Rattle.ssim_periods.specs.clauses.Days.{Seen}
 use Rattle.ssim_base.specs.Timetable.{Legs}
 use Rattle.ssim_schedule.specs.internal.Table.{AreRising, Table}
 use Rattle.ssim_schedule.proofs.BlockLemmas.{IsIn, has, is_block, is_in}

@@ -1,6 +1,6 @@
 -- The flight's entry is written over, or put into its gap, in the flight's block.
 use Rattle.std.proofs.Common.{◌≡◌, nat_eq, if◌then◌else◌, [], OnOk, refl, ap, subst, ◌∙◌}
-use Rattle.ssim_periods.specs.Days.{Seen}
+use Rattle.ssim_periods.specs.clauses.Days.{Seen}
 use Rattle.ssim_base.specs.Timetable.{Legs}
 use Rattle.ssim_base.specs.ReadBack.{place_of}
 use Rattle.ssim_values.specs.Flight.{FlightNumber}

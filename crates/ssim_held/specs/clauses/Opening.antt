@@ -3,7 +3,7 @@ use Rattle.std.specs.Prelude.{◌≡◌, ℕ, ◌+◌, ◌%◌, ◌^◌, ◌≤�
 use Rattle.ssim_records.specs.declared.fault.RecordFault.TheVariants.{ReadFault, ReaderNeverEnds}
 use Rattle.ssim_records.specs.Device.{Reader}
 use Rattle.ssim_base.specs.BaseSeen.{BaseSeen}
-use Rattle.ssim_base.specs.Reading.{Came}
+use Rattle.ssim_base.specs.clauses.Reading.{Came}
 use Rattle.ssim_held.specs.File.{IsDeskFile}
 use Rattle.ssim_held.specs.Entries.{Entry}
 use Rattle.ssim_held.specs.declared.fault.DeskFault.{DeskFault}

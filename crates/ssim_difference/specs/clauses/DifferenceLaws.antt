@@ -2,7 +2,7 @@
 use Rattle.std.proofs.Common.{◌≡◌, ◌↔◌, ◌∙◌, IsTrue, ap}
 use Rattle.std.specs.Bool.{Decides}
 use Rattle.std.proofs.lemmas.Bool.Decides.{Decides-and}
-use Rattle.ssim_base.specs.ItineraryLaws.{exact_itinerary}
+use Rattle.ssim_base.specs.clauses.ItineraryLaws.{exact_itinerary}
 use Rattle.ssim_base.specs.Timetable.{Legs}
 use Rattle.ssim_difference.specs.Differences.{pair, same_difference}
 use Rattle.ssim_difference.specs.declared.difference.Difference.{Difference}

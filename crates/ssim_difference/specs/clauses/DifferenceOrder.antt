@@ -4,8 +4,9 @@ use Rattle.std.proofs.Common.{◌≡◌}
 use Rattle.std.specs.Cmp.{IsTotalOrder, both_tied, on_total, then_total}
 use Rattle.std.specs.Ordering.{is_eq, ordering_then}
 use Rattle.std.specs.declared.cmp.Ordering.{Ordering}
-use Rattle.ssim_schedule.specs.ItineraryOrder.{itinerary_cmp}
-use Rattle.ssim_schedule.specs.ItineraryOrderLaws.{itinerary-told_apart, itinerary_cmp_total}
+use Rattle.ssim_schedule.specs.clauses.ItineraryOrder.{itinerary_cmp}
+use Rattle.ssim_schedule.specs.clauses.ItineraryOrderLaws.{itinerary-told_apart}
+use Rattle.ssim_schedule.specs.clauses.ItineraryOrderLaws.{itinerary_cmp_total}
 use Rattle.ssim_difference.specs.Differences.{same_difference}
 use Rattle.ssim_difference.specs.declared.difference.Difference.{Difference}
 

@@ -7,7 +7,7 @@ use Rattle.ssim_records.specs.declared.record.Record.{Record}
 use Rattle.ssim_records.specs.declared.records.Ending.{Ending}
 use Rattle.ssim_records.specs.declared.records.Ending.TheVariants.{End, Refused}
 use Rattle.ssim_records.specs.Frames.{Frames, others}
-use Rattle.ssim_records.specs.Blocks.{Fetches, beyond}
+use Rattle.ssim_records.specs.clauses.Blocks.{Fetches, beyond}
 use Rattle.ssim_records.specs.Record.{Spells, fault_of}
 
 -- The state of reading: the most bytes that may come, how many came, how many records were counted,

@@ -6,7 +6,7 @@ use Rattle.std.specs.Ordering.{is_eq, nat_cmp, ordering_then}
 use Rattle.std.proofs.lemmas.Map.Text.{is_eq-slice_cmp}
 use Rattle.ssim_base.specs.Timetable.{LegValue, Legs}
 use Rattle.ssim_base.specs.Export.{same_itinerary, same_leg, same_tails}
-use Rattle.ssim_schedule.specs.ItineraryOrder.{itinerary_cmp, leg_cmp, tails_cmp}
+use Rattle.ssim_schedule.specs.clauses.ItineraryOrder.{itinerary_cmp, leg_cmp, tails_cmp}
 
 tails_cmp_total : IsTotalOrder tails_cmp
 tails_cmp_total = lists_total nat_list_cmp_total

@@ -1,7 +1,7 @@
 -- Bytes that came from a source and are not used yet.
 use Rattle.std.specs.Prelude.{ℕ, ◌≡◌, ◌+◌, ◌%◌, ◌^◌, List, ◌++◌, length, Option, Some, None}
 use Rattle.std.specs.Io.KnownBytes.{Consumes}
-use Rattle.ssim_records.specs.Blocks.{CameOn, CountsOn}
+use Rattle.ssim_records.specs.clauses.Blocks.{CameOn, CountsOn}
 use Rattle.ssim_records.specs.Device.{Reader}
 use Rattle.ssim_records.specs.declared.input_buffer.InputFault.{InputFault}
 use Rattle.ssim_records.specs.declared.input_buffer.InputFault.TheVariants.{ReadFault, ReaderNeverEnds}

@@ -3,7 +3,9 @@ use Rattle.std.specs.Prelude.{◌≡◌, ◌≢◌, ℕ, zero, suc, ◌+◌, ◌
 use Rattle.std.specs.Prelude.{slice_get, Some, MatchOption}
 use Rattle.std.specs.List.{flat_map}
 use Rattle.ssim_text.specs.declared.reference.Reference.{Reference}
-use Rattle.ssim_held.specs.{Entries.Entry, Ordered.Belongs, declared.pages.Place.Place}
+use Rattle.ssim_held.specs.Entries.{Entry}
+use Rattle.ssim_held.specs.clauses.Ordered.{Belongs}
+use Rattle.ssim_held.specs.declared.pages.Place.{Place}
 
 -- the messages of all pages, in order
 abbrev pub all_of : List (List Entry) → List Entry
