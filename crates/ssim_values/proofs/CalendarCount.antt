@@ -1,6 +1,9 @@
--- Counting through the years and months finds the date that has a number.
-use Rattle.std.proofs.Common.{◌≡◌, ℕ, zero, suc, ◌+◌, ◌-◌, ◌*◌, ◌<◌, ◌≤◌, true, false, nat_lt, if◌then◌else◌, refl, ap, arith}
+-- Counting through the years and months finds the date that has a number, which is the date of jiff.
+use Rattle.std.proofs.Common.{◌≡◌, ℕ, zero, suc, ◌+◌, ◌-◌, ◌*◌, ◌<◌, ◌≤◌, true, false, nat_lt, if◌then◌else◌, refl, sym, ap, ◌∙◌, arith, pos}
 use Rattle.std.proofs.lemmas.Bool.Decides.{nat_tests}
+use Rattle.jiff_core.specs.Date.{epoch_day, IsYmd}
+use Rattle.jiff_core.specs.declared.civil.date.Date.{Date}
+use Rattle.ssim_values.proofs.CalendarLemmas.{IsYmd-epoch_day}
 use Rattle.ssim_values.specs.Calendar.{is_leap, month_length, leap_years, months_length, day_number, IsDate, Within, year_from, month_from, year_of, month_of, day_of_month, day_limit}
 
 -- how long the year y is
@@ -94,3 +97,8 @@ date_of_number n h =
       record { year_from = year.from; year_to = year.to; month_from = month.from; month_to = month.to; day_from = omega arith; day_to = omega (arith, month.over) },
       omega (arith, year.count, month.count, first, nothing_before),
     )
+
+pub IsYmd-of_number : (date : Date) (n : ℕ) → n < day_limit → epoch_day date ≡ pos (n + 10_957) → IsYmd (pos (year_of n)) (pos (month_of n)) (pos (day_of_month n)) date
+IsYmd-of_number date n h e =
+    let is = date_of_number n h in
+    IsYmd-epoch_day date _ _ _ is.0 (e ∙ ap (λ k. pos (k + 10_957)) (sym is.1))

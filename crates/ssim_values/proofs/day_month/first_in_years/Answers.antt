@@ -6,7 +6,7 @@ use Rattle.ssim_values.proofs.day_month.first_in_years.Goals as goal
 
 pub loop-year-init : goal.loop-year-init
 loop-year-init c = λ y lt is.
-    omega (arith, c.year_and_days-first_year.ensures.number, day_number-lt_year y _ _ _ _ _ is c.year_and_days-first_year.ensures.date lt)
+    omega (arith, c.year_month_day-first_year.ensures.number, day_number-lt_year y _ _ _ _ _ is c.year_month_day-first_year.ensures.date lt)
 
 pub returns-then-le-clause-least : goal.returns-then-le-clause-least
 returns-then-le-clause-least c = λ k low high h.

@@ -1,2 +1,0 @@
--- What only the private functions and the proofs of this crate cite.
-pub mod MarchYears
