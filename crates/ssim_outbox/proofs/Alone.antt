@@ -44,7 +44,7 @@ use Rattle.ssim_text.proofs.Words.{only_if}
 use Rattle.ssim_text.proofs.Writing.{written_both}
 use Rattle.ssim_outbox.specs.DatedSub.{dated}
 use Rattle.ssim_outbox.specs.clauses.Messages.{IsAlone}
-use Rattle.ssim_publish.specs.Reach.{IsSaid}
+use Rattle.ssim_outbox.specs.Reach.{IsSaid}
 use Rattle.ssim_outbox.specs.internal.Texts.{heading_parts}
 use Rattle.ssim_outbox.proofs.FullPeriods.{full_again, full_period, full_short}
 use Rattle.ssim_outbox.proofs.OtherGroup.{date_five}

@@ -42,8 +42,8 @@ use Rattle.ssim_text.proofs.Place.{one_message}
 use Rattle.ssim_text.proofs.Runs.{none_some, some_same}
 use Rattle.ssim_text.proofs.Words.{only_if}
 use Rattle.ssim_text.proofs.ReadsBack.{action_again, all_both, kind_again, mode_again}
-use Rattle.ssim_publish.specs.Sayable.{IsTextLine}
-use Rattle.ssim_publish.proofs.ActionTexts.{said_if_allowed}
+use Rattle.ssim_outbox.specs.Sayable.{IsTextLine}
+use Rattle.ssim_outbox.proofs.ActionTexts.{said_if_allowed}
 use Rattle.ssim_outbox.specs.internal.Texts.{heading_parts}
 use Rattle.ssim_outbox.proofs.Alone.{alone_under, designator_short}
 use Rattle.ssim_outbox.specs.Heading.{IsOriginatedWord, IsPlainWord, IsReferenceLine, NamesHeading}

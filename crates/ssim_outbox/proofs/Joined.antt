@@ -26,10 +26,10 @@ use Rattle.ssim_desk.specs.Meaning.{Timetable, after_one, after_subs}
 use Rattle.ssim_difference.specs.Differences.{Compared, compared, difference, difference_pieces}
 use Rattle.ssim_difference.specs.Differences.{differences, differing_days, differs, no_difference, same_difference}
 use Rattle.ssim_difference.specs.declared.difference.Difference.{Difference}
-use Rattle.ssim_publish.specs.Acting.{ActOn, ActOnTheirDates}
-use Rattle.ssim_publish.specs.Published.{IsPublished, IsPublishedOn, Leave, NamesDifferences, legs_after}
-use Rattle.ssim_publish.specs.Reach.{IsSaid}
-use Rattle.ssim_publish.specs.declared.planned_sub.PlannedSub.{PlannedSub}
+use Rattle.ssim_outbox.specs.Acting.{ActOn, ActOnTheirDates}
+use Rattle.ssim_outbox.specs.Published.{IsPublished, IsPublishedOn, Leave, NamesDifferences, legs_after}
+use Rattle.ssim_outbox.specs.Reach.{IsSaid}
+use Rattle.ssim_outbox.specs.declared.planned_sub.PlannedSub.{PlannedSub}
 use Rattle.ssim_outbox.specs.Delivery.{AreDelivered, CanDeliver, entries_of}
 use Rattle.ssim_outbox.specs.MailFile.{mail_file}
 use Rattle.ssim_outbox.specs.clauses.Fault.{not_sent}

@@ -26,9 +26,9 @@ use Rattle.ssim_text.proofs.LinesKept.{ReadsAgain}
 use Rattle.ssim_text.proofs.ReadsBack.{all_left, all_right, spelled_again}
 use Rattle.ssim_text.proofs.Runs.{some_same}
 use Rattle.ssim_text.proofs.Words.{bound, only_else, only_if}
-use Rattle.ssim_publish.specs.Reach.{IsSaid}
-use Rattle.ssim_publish.proofs.ActionTexts.{IsShort, end_short, ends_short, equipment_bounded_short}
-use Rattle.ssim_publish.proofs.Said.{HasBody, bodies, element}
+use Rattle.ssim_outbox.specs.Reach.{IsSaid}
+use Rattle.ssim_outbox.proofs.ActionTexts.{IsShort, end_short, ends_short, equipment_bounded_short}
+use Rattle.ssim_outbox.proofs.Said.{HasBody, bodies, element}
 
 -- ---- the parts of an action
 

@@ -36,12 +36,12 @@ use Rattle.ssim_desk.specs.Meaning.{Timetable, after_entries, after_entry, after
 use Rattle.ssim_desk.specs.Meaning.{left_by}
 use Rattle.ssim_desk.proofs.HeldEntries.{each_found}
 use Rattle.ssim_difference.specs.Differences.{NoneDiffer}
-use Rattle.ssim_publish.specs.Published.{IsPublishedOn}
-use Rattle.ssim_publish.specs.Reach.{IsSaid, Reach, after_all}
-use Rattle.ssim_publish.specs.Sayable.{HaveColumns}
-use Rattle.ssim_publish.proofs.MoreActions.{given_in, more_reached}
-use Rattle.ssim_publish.proofs.SaidAgain.{IsIn}
-use Rattle.ssim_publish.proofs.Tried.{after_both}
+use Rattle.ssim_outbox.specs.Published.{IsPublishedOn}
+use Rattle.ssim_outbox.specs.Reach.{IsSaid, Reach, after_all}
+use Rattle.ssim_outbox.specs.Sayable.{HaveColumns}
+use Rattle.ssim_outbox.proofs.MoreActions.{given_in, more_reached}
+use Rattle.ssim_outbox.proofs.SaidAgain.{IsIn}
+use Rattle.ssim_outbox.proofs.Tried.{after_both}
 use Rattle.ssim_outbox.specs.Messages.{IsText}
 use Rattle.ssim_outbox.specs.SameBase.{AllIsReached, NothingIsUnsaid}
 

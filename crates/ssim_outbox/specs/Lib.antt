@@ -1,3 +1,8 @@
+pub mod Reach
+pub mod Sayable
+pub mod Published
+pub mod Acting
+pub mod Unsaid
 pub mod Messages
 pub mod DatedSub
 pub mod SendLaws

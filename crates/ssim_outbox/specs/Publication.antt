@@ -18,10 +18,10 @@ use Rattle.ssim_text.specs.declared.reference.Reference.{Reference}
 use Rattle.ssim_held.specs.Entries.{DeskSeen}
 use Rattle.ssim_desk.specs.Desk.{days_of_desk}
 use Rattle.ssim_difference.specs.Differences.{date_count}
-use Rattle.ssim_publish.specs.Acting.{ActOnTheirDates}
-use Rattle.ssim_publish.specs.Published.{IsPublished, Leave, NamesDifferences}
-use Rattle.ssim_publish.specs.Unsaid.{AreUnsaidLines}
-use Rattle.ssim_publish.specs.declared.planned_sub.PlannedSub.{PlannedSub}
+use Rattle.ssim_outbox.specs.Acting.{ActOnTheirDates}
+use Rattle.ssim_outbox.specs.Published.{IsPublished, Leave, NamesDifferences}
+use Rattle.ssim_outbox.specs.Unsaid.{AreUnsaidLines}
+use Rattle.ssim_outbox.specs.declared.planned_sub.PlannedSub.{PlannedSub}
 use Rattle.ssim_outbox.specs.Comparable.{AreComparable, AreOfOtherAirlines, AreOfOtherModes}
 use Rattle.ssim_outbox.specs.DatedSub.{dated}
 use Rattle.ssim_outbox.specs.Delivery.{AreDelivered, CanDeliver}

@@ -11,8 +11,8 @@ use Rattle.ssim_held.specs.Entries.{AreEntries, DeskSeen, state_of}
 use Rattle.ssim_held.specs.Held.{Holds}
 use Rattle.ssim_desk.specs.Desk.{days_of_desk}
 use Rattle.ssim_difference.specs.Differences.{differences}
-use Rattle.ssim_publish.specs.Published.{IsPublished}
-use Rattle.ssim_publish.specs.Reach.{Reach}
+use Rattle.ssim_outbox.specs.Published.{IsPublished}
+use Rattle.ssim_outbox.specs.Reach.{Reach}
 use Rattle.ssim_outbox.specs.Messages.{IsText}
 
 -- The desk `to` has the base of the desk `from`, and holds each message that `from` holds, under

@@ -1,2 +1,4 @@
 -- Computed examples.
+pub mod Dates
+pub mod Plans
 pub mod Texts

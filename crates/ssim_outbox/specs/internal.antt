@@ -1,4 +1,10 @@
 -- Definitions that only private functions cite, so nobody has to believe them.
+pub mod ActionTexts
+pub mod ColumnLines
+pub mod Candidates
+pub mod Drafts
+pub mod Marked
+pub mod AddedLines
 pub mod Texts
 pub mod Delivery
 pub mod Headings

@@ -7,7 +7,7 @@ ghost use Rattle.ssim_values.specs.Designator.{SpellsDesignator, designator_text
 ghost use Rattle.ssim_text.specs.declared.kind.Kind.TheVariants.{Ssm};
 ghost use Rattle.ssim_outbox.specs.DatedSub.{dated};
 ghost use Rattle.ssim_outbox.specs.clauses.Messages.{IsAlone};
-ghost use Rattle.ssim_publish.specs.Reach.{IsSaid};
+ghost use Rattle.ssim_outbox.specs.Reach.{IsSaid};
 
 use ssim_text::{Action, Dates, GivenDate, GivenEnd, GivenPeriod, Message, Sub};
 use ssim_values::{Designator, Period};

@@ -5,7 +5,7 @@ ghost use Rattle.std.specs.Prelude.{IfErr, IfNone, IfOk, IfSome, OnOk};
 ghost use Rattle.std.specs.List.{list_all};
 ghost use Rattle.ssim_text.specs.Bytes.{is_alphanumeric, is_printable};
 ghost use Rattle.ssim_text.specs.Spelling.{SpellsMessage};
-ghost use Rattle.ssim_publish.specs.Sayable.{IsTextLine};
+ghost use Rattle.ssim_outbox.specs.Sayable.{IsTextLine};
 ghost use Rattle.ssim_values.specs.Designator.{SpellsDesignator, designator_text};
 ghost use Rattle.ssim_outbox.specs.Heading.{NamesHeading};
 ghost use Rattle.ssim_outbox.specs.internal.Headings.{RefusesText, RefusesWord, added_lines};

@@ -1,12 +1,23 @@
-//! What holds of messages that send sub-messages, and of the way from one desk to another.
+//! What messages can make of an itinerary, what holds of messages that send sub-messages, and of the
+//! way from one desk to another.
 
+ghost use Rattle.ssim_outbox.specs.Sayable.{MessagesReach};
 ghost use Rattle.ssim_outbox.specs.MailFile.{MailboxesRead, SentAreMail};
 ghost use Rattle.ssim_outbox.specs.SameBase.{AllIsReached, NothingIsUnsaid};
 ghost use Rattle.ssim_outbox.specs.SendLaws.{FullDatesResolve, SerialsRise, SubsAreJoined};
 // The worked examples, which are computed: a false one is an error in this file.
+ghost use Rattle.ssim_outbox.specs.examples.Dates;
+ghost use Rattle.ssim_outbox.specs.examples.Plans;
 ghost use Rattle.ssim_outbox.specs.examples.Texts;
 
 use ssim_difference::laws::equal_timetables_have_no_difference;
+
+/// Some list of sub-messages makes the new itinerary of a date of the old one if and only if the
+/// new one is none, a whole new one with the UTC variations of the date, or the old one with other
+/// equipment and other times.
+pub fn messages_reach()
+    ensures { MessagesReach }
+{}
 
 /// The messages have the sub-messages that they send, each once and in order. Each message has the
 /// heading, and the next group serial after the message before.

@@ -6,26 +6,18 @@ ghost use Rattle.ssim_base.specs.Resolve.{AreResolved};
 ghost use Rattle.ssim_records.specs.Carrier.{CarrierFields};
 ghost use Rattle.ssim_text.specs.declared.kind.Kind.TheVariants.{Ssm};
 ghost use Rattle.ssim_values.specs.Flight.{IsFlight};
-ghost use Rattle.ssim_publish.specs.Reach.{IsSaid};
+ghost use Rattle.ssim_outbox.specs.Reach.{IsSaid};
 ghost use Rattle.ssim_outbox.specs.clauses.Messages.{IsAlone};
 ghost use Rattle.ssim_outbox.specs.Publication.{dates_of_plan, subs_of_plan};
 ghost use Rattle.ssim_outbox.specs.internal.Addressed.{HasPlan};
 
 use crate::full_dates::dated_sub;
+use crate::plan::{Plan, make_plan};
+use crate::planned_sub::PlannedSub;
 use ssim_desk::Holdings;
-use ssim_difference::FlightDifference;
-use ssim_publish::{PlannedSub, Publication, plan};
 use ssim_text::{Message, Sub};
 use ssim_values::{Airline, Designator, Memory};
 use std::alloc::Global;
-
-/// The sub-messages that lead the timetable of a desk towards another desk's, and the dates that
-/// they leave unsaid.
-#[derive(Drop)]
-pub(crate) struct Plan {
-    pub subs: Vec<PlannedSub>,
-    pub unsaid: Vec<FlightDifference>,
-}
 
 /// The plan between the timetables of two desks, by the station table of the first.
 pub(crate) fn plan_between(alloc: Global, from: &Holdings, to: &Holdings) -> Result<Plan, Memory>
@@ -34,10 +26,9 @@ pub(crate) fn plan_between(alloc: Global, from: &Holdings, to: &Holdings) -> Res
 {
     let old = from.schedule()?;
     let new = to.schedule()?;
-    let publication = plan(alloc, from.base().rows(), &old, &new)?;
-    let Publication { subs, unsaid, .. } = publication;
-    flights_exist(&subs);
-    Ok(Plan { subs, unsaid })
+    let plan = make_plan(alloc, from.base().rows(), &old, &new)?;
+    flights_exist(&plan.subs);
+    Ok(plan)
 }
 
 // No effect at run time. The proof reads from the uses in it that the flights exist.

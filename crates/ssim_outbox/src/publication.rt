@@ -6,7 +6,7 @@ ghost use Rattle.ssim_base.specs.Resolve.{AreResolved};
 ghost use Rattle.ssim_records.specs.Carrier.{CarrierFields};
 ghost use Rattle.ssim_text.specs.declared.kind.Kind.TheVariants.{Ssm};
 ghost use Rattle.ssim_held.specs.Entries.{DeskSeen};
-ghost use Rattle.ssim_publish.specs.Reach.{IsSaid};
+ghost use Rattle.ssim_outbox.specs.Reach.{IsSaid};
 ghost use Rattle.ssim_outbox.specs.Messages.{Send};
 ghost use Rattle.ssim_outbox.specs.Publication.{Publishes, RefusesPublication, dates_of_plan};
 ghost use Rattle.ssim_outbox.specs.Publication.{subs_of_plan};
@@ -16,10 +16,11 @@ use crate::address::{Address, address_of};
 use crate::fault::OutboxFault;
 use crate::mail_file::mail_file_of;
 use crate::messages::messages_of;
-use crate::plan_subs::{Plan, plan_between, subs_of_plan};
+use crate::plan::Plan;
+use crate::plan_subs::{plan_between, subs_of_plan};
+use crate::planned_sub::PlannedSub;
 use crate::publication_lines::publication_lines;
 use ssim_desk::Holdings;
-use ssim_publish::PlannedSub;
 use ssim_text::Message;
 use ssim_values::Airline;
 use std::alloc::Global;
@@ -79,7 +80,7 @@ fn publish_plan(
         → IfErr result (RefusesPublication from.now to word) }
 {
     let Address { heading, reference } = address;
-    let Plan { subs, unsaid } = plan;
+    let Plan { subs, unsaid, .. } = plan;
     let count = subs.len();
     let airline = from.base().airline();
     let messages = sent(alloc, &heading, airline, subs)?;

@@ -6,10 +6,10 @@ ghost use Rattle.ssim_base.specs.Timetable.{Days};
 ghost use Rattle.ssim_difference.specs.Differences.{differences};
 ghost use Rattle.ssim_outbox.specs.Publication.{AreLines, last_line, text_line};
 
+use crate::unsaid_dates::unsaid_lines;
 use ssim_base::StationRow;
 use ssim_difference::{FlightDifference, date_count};
 use ssim_lines::{Printed, push_each, written};
-use ssim_publish::unsaid_lines;
 use ssim_text::{Message, Reference};
 use ssim_values::{Airline, Memory};
 use std::alloc::Global;

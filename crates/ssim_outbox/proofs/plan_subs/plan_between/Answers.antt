@@ -9,10 +9,10 @@ use Rattle.ssim_outbox.proofs.plan_subs.plan_between.Goals as goal
 
 pub returns : goal.returns
 returns c =
-    let publication = c.in_ok-publication.publication in
+    let plan = c.in_ok-plan.plan in
     plan_of_days c.args.from.now c.args.to.now c.rows.result.now (days_in c.in_ok-old.old) (days_in c.in_ok-new.new)
-    (days_in publication.after) publication.subs.items c.deref.result.now publication.unsaid.items
+    (days_in plan.after) plan.subs.items c.deref.result.now plan.unsaid.items
     (c.rows.ensures ∙ ap (λ (b : BaseSeen). b.rows) c.base.ensures) c.deref.ensures.value c.flights_exist.ensures
-    c.in_ok-old.ensures c.in_ok-new.ensures c.in_ok-publication.ensures.leave
-    c.in_ok-publication.ensures.published c.in_ok-publication.ensures.unsaid c.in_ok-publication.ensures.said
-    c.in_ok-publication.ensures.differing c.in_ok-publication.ensures.acting
+    c.in_ok-old.ensures c.in_ok-new.ensures c.in_ok-plan.ensures.leave
+    c.in_ok-plan.ensures.published c.in_ok-plan.ensures.unsaid c.in_ok-plan.ensures.said
+    c.in_ok-plan.ensures.differing c.in_ok-plan.ensures.acting

@@ -5,7 +5,7 @@ use Rattle.std.specs.Vec.Iter.{into_iter_items}
 use Rattle.ssim_base.specs.Resolve.{AreResolved, IsResolved}
 use Rattle.ssim_text.specs.declared.action.Sub.{Sub}
 use Rattle.ssim_text.proofs.ReadsBack.{all_both}
-use Rattle.ssim_publish.specs.declared.planned_sub.PlannedSub.{PlannedSub}
+use Rattle.ssim_outbox.specs.declared.planned_sub.PlannedSub.{PlannedSub}
 use Rattle.ssim_outbox.specs.clauses.Messages.{IsAlone}
 use Rattle.ssim_outbox.specs.Publication.{dates_of_plan, subs_of_plan}
 use Rattle.ssim_outbox.proofs.plan_subs.subs_of_plan.Goals as goal

@@ -5,8 +5,8 @@ use Rattle.std.specs.List.{AllByRecursion}
 use Rattle.std.specs.Vec.Iter.{into_iter_items, into_iter_len}
 use Rattle.ssim_base.specs.Resolve.{AreResolved}
 use Rattle.ssim_records.specs.Carrier.{CarrierFields}
-use Rattle.ssim_publish.specs.Reach.{IsSaid}
-use Rattle.ssim_publish.specs.declared.planned_sub.PlannedSub.{PlannedSub}
+use Rattle.ssim_outbox.specs.Reach.{IsSaid}
+use Rattle.ssim_outbox.specs.declared.planned_sub.PlannedSub.{PlannedSub}
 use Rattle.ssim_outbox.specs.clauses.Messages.{IsAlone}
 use Rattle.ssim_outbox.specs.Publication.{dates_of_plan, subs_of_plan}
 use Rattle.ssim_outbox.proofs.plan_subs.subs_of_plan.Given as goal

@@ -1,5 +1,0 @@
-use Rattle.ssim_publish.proofs.Reached.{messages_reach}
-use Rattle.ssim_publish.proofs.laws.messages_reach.Goals as goal
-
-pub returns : goal.returns
-returns c = messages_reach

@@ -1,3 +1,0 @@
--- Computed examples.
-pub mod Dates
-pub mod Plans
