@@ -1,18 +1,18 @@
 #!/usr/bin/env python3
-"""Makes the manual page and the completion from the program's help, and compares them: pages.py PROGRAM [page]
+"""Makes the manual page and the completion from the program's help: pages.py PROGRAM [FOLDER]
 
-docs/ssimdesk.1 is a manual page, docs/ssimdesk.bash completes the words of a command line in bash. Both have each command that
-`--help` lists, with its values and options as `COMMAND --help` shows them. `--help` names each command once in its lists of what
-they are for. With `page` the files are written, and nothing is compared. The last line is 'N passed, M failed'.
+In the folder, ssimdesk.1 is a manual page, and ssimdesk.bash completes the words of a command line in bash. Both have each command
+that `--help` lists, with its values and options as `COMMAND --help` shows them. Without a folder they are made and tried: the manual
+page has a heading for each command, bash completes the name and the options of each, and `--help` names each command once in its lists
+of what they are for. The last line is 'N passed, M failed'.
 """
 import os
 import re
 import subprocess
 import sys
 
-TOP = os.path.dirname(os.path.dirname(os.path.abspath(__file__)))
-MANUAL = os.path.join("docs", "ssimdesk.1")
-COMPLETION = os.path.join("docs", "ssimdesk.bash")
+MANUAL = "ssimdesk.1"
+COMPLETION = "ssimdesk.bash"
 
 # Values that are not names of files.
 NO_FILES = {"FLIGHT", "DATE", "STATION", "REFERENCE"}
@@ -151,26 +151,45 @@ def made(program, whole):
     return {MANUAL: manual(version, whole, pages), COMPLETION: completion(pages)}
 
 
+def completes(source, *words):
+    """What bash completes the last of the words to."""
+    script = 'source /dev/stdin; COMP_WORDS=("$@"); COMP_CWORD=$(($# - 1)); _ssimdesk; printf "%s\\n" "${COMPREPLY[@]}"'
+    done = subprocess.run(["bash", "-c", script, "bash", "ssimdesk", *words], input=source, capture_output=True, text=True,
+                          timeout=60, check=True)
+    return done.stdout.split()
+
+
+def faults(whole, files):
+    """What is wrong with the files, or with the lists of help."""
+    headings = re.findall(r"^\.SS (\S+)", files[MANUAL], re.MULTILINE)
+    if headings != whole.commands:
+        yield "the manual page has not a heading for each command"
+    if sorted(completes(files[COMPLETION], "")) != sorted([*whole.commands, "help", "--help", "--version"]):
+        yield "bash does not complete the names of the commands"
+    if set(completes(files[COMPLETION], "list", "--")) != {"--csv", "--dates", "--help"}:
+        yield "bash does not complete the options of a command"
+    if sorted(grouped(whole)) != sorted(whole.commands):
+        yield "the lists of help, by what the commands are for, do not name each command once"
+
+
+def write(folder, files):
+    """Writes the files."""
+    for name, text in files.items():
+        with open(os.path.join(folder, name), "w", encoding="utf-8", newline="\n") as file:
+            file.write(text)
+
+
 def main():
     program = os.path.abspath(sys.argv[1])
     whole = Page(printed(program, "--help"))
     files = made(program, whole)
-    if sys.argv[2:] == ["page"]:
-        for name, text in files.items():
-            with open(os.path.join(TOP, name), "w", encoding="utf-8", newline="\n") as file:
-                file.write(text)
+    if len(sys.argv) > 2:
+        write(sys.argv[2], files)
         return 0
-    failed = 0
-    for name, text in files.items():
-        with open(os.path.join(TOP, name), encoding="utf-8", newline="\n") as file:
-            if file.read() != text:
-                failed += 1
-                print(f"{name} is not what the help says: tests/pages.py PROGRAM page writes it anew")
-    if sorted(grouped(whole)) != sorted(whole.commands):
-        failed += 1
-        print("the lists of help, by what the commands are for, do not name each command once")
-    print(f"{len(files) + 1 - failed} passed, {failed} failed")
-    return 1 if failed else 0
+    found = list(faults(whole, files))
+    print(*found, sep="\n", end="\n" if found else "")
+    print(f"{4 - len(found)} passed, {len(found)} failed")
+    return 1 if found else 0
 
 
 if __name__ == "__main__":

@@ -15,6 +15,7 @@ if [ ! -x "$program" ]; then
     exit 1
 fi
 tidied=$(realpath crates/ssimdesk/stdout)
+names=$(sed -n 's/^- `\([a-z]*\) .*/\1/p' README.md)
 room=$(mktemp -d)
 trap 'rm -rf "$room"' EXIT
 cp tests/program/*.ssim "$room"
@@ -269,7 +270,7 @@ desks_refused
 desks_printed
 either_printed
 long_files
-for name in check problems tidy start take merge withdraw receive texts show history list board calendar diff publish page findings export rehearse explain; do
+for name in $names; do
     expect "help of $name" 0 @ "" "$name" --help
     expect "$name without its words" 2 "" @ "$name"
 done

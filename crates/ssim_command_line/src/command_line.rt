@@ -3,9 +3,9 @@ ghost use Rattle.std.specs.Prelude.{◌≡◌, ◌++◌, [], IfErr, IfOk, MatchR
 ghost use Rattle.std.specs.Prelude.{option_map, unwrap_or};
 ghost use Rattle.clap.specs.Words.{all_of, app_of, found_of, first_of, rows_of};
 ghost use Rattle.ssim_command_line.specs.Line.{Line, Spells, form_of, is_given, line_from, values_in};
-ghost use Rattle.ssim_command_line.specs.clauses.Request.{line_of};
-ghost use Rattle.ssim_command_line.specs.clauses.Usage.{IsFaultOf};
+ghost use Rattle.ssim_command_line.specs.Line.{line_of};
 ghost use Rattle.ssim_command_line.specs.Usage.{Names, line_at};
+ghost use Rattle.ssim_command_line.specs.clauses.Usage.{IsFaultOf};
 
 use crate::program::program;
 use crate::table::{PLACES, commands};

@@ -1,5 +1,10 @@
-//! The commands, each in a module of its own: what it prints, and the files that it keeps.
-//! `explain` and `rehearse` have their own folders.
+//! The commands, each in a module of its own: what it makes of the files. `explain` and `rehearse` have
+//! their own folders.
+ghost use Rattle.std.specs.Prelude.{◌≡◌, IfOk, IsTrue, List, Option, ℕ};
+ghost use Rattle.ssim_command_line.specs.Line.{line_of};
+ghost use Rattle.ssim_program.specs.Again.{PrintsItself};
+ghost use Rattle.ssim_program.specs.Answers.{answers};
+ghost use Rattle.ssim_program.specs.internal.Program.{AreLines, MadeItself, MakesOr};
 
 pub(crate) mod board;
 pub(crate) mod calendar;
@@ -21,3 +26,96 @@ pub(crate) mod take;
 pub(crate) mod texts;
 pub(crate) mod tidy;
 pub(crate) mod withdraw;
+
+use crate::explain::explain;
+use crate::made::Made;
+use crate::refusal::Refusal;
+use crate::rehearse::rehearse;
+use crate::store::{Hold, Store};
+use ssim_command_line::Request;
+use std::alloc::Global;
+
+/// Lines as what a command has made.
+fn lines<'r, H: Hold + Drop>(made: Result<Vec<u8>, Refusal>) -> Result<Made<'r, H>, Refusal>
+    ensures { AreLines made result }
+{
+    match made {
+        Ok(lines) => Ok(Made::Lines(lines)),
+        Err(refusal) => Err(refusal),
+    }
+}
+
+/// What a request makes. Nothing is printed or kept yet.
+pub(crate) fn make<'r, S: Store>(
+    alloc: Global,
+    request: &'r Request<'r>,
+    store: &mut S,
+) -> Result<Made<'r, S::Hold>, Refusal>
+    requires fresh { IsTrue (S.is_fresh store.now) }
+    ensures answer { MakesOr S.Hold.file (S.files store.old)
+        (answers (line_of request.entry.now) (S.files store.old)) result }
+    ensures same { S.files store.new ≡ S.files store.old }
+    ensures counted { S.failures store.new ≡ S.failures store.old }
+    ensures again { IfOk result (λ made. (before after : Option (List ℕ))
+        → MadeItself made before after → PrintsItself (line_of request.entry.now) before after) }
+{
+    match request {
+        Request::Start {
+            dataset,
+            stations,
+            out,
+        } => start::start(alloc, dataset, stations, out, store),
+        Request::Take { desk, out, texts } => take::take(alloc, desk, out, texts, store),
+        Request::Receive {
+            refused,
+            desk,
+            out,
+            texts,
+        } => receive::receive(alloc, *refused, desk, out, texts, store),
+        Request::Merge { desk, other, out } => merge::merge(alloc, desk, other, out, store),
+        Request::Withdraw {
+            desk,
+            out,
+            references,
+        } => withdraw::withdraw(alloc, desk, out, references, store),
+        Request::Publish {
+            from,
+            to,
+            reference,
+            out,
+        } => publish::publish(alloc, from, to, reference, out, store),
+        Request::Tidy { dataset } => tidy::tidy(alloc, dataset, store),
+        Request::Export { desk } => export::export(alloc, desk, store),
+        Request::Check { dataset } => lines(check::check(alloc, dataset, store)),
+        Request::Problems { dataset } => lines(problems::problems(alloc, dataset, store)),
+        Request::Texts { desk, flights } => lines(texts::texts(alloc, desk, flights, store)),
+        Request::Show { desk, flight, date } => {
+            lines(show::show_flight(alloc, desk, flight, date, store))
+        }
+        Request::History { desk, flight, date } => {
+            lines(history::history(alloc, desk, flight, date, store))
+        }
+        Request::Board {
+            file,
+            station,
+            date,
+        } => lines(board::board(alloc, file, station, date, store)),
+        Request::List {
+            form,
+            file,
+            flights,
+        } => lines(list::list(alloc, *form, file, flights, store)),
+        Request::Calendar { file, flight } => {
+            lines(calendar::calendar(alloc, file, flight, store))
+        }
+        Request::Page { file } => lines(page::page(alloc, file, store)),
+        Request::Diff { from, to } => lines(diff::diff(alloc, from, to, store)),
+        Request::Findings { desk } => lines(findings::findings(alloc, desk, store)),
+        Request::Rehearse {
+            dataset,
+            stations,
+            script,
+        } => lines(rehearse(alloc, dataset, stations, script, store)),
+        Request::Explain { word } => lines(explain(alloc, word, store)),
+    }
+}

@@ -34,7 +34,6 @@ mod finish;
 mod hold;
 pub mod laws;
 mod made;
-mod make;
 mod print;
 mod program;
 mod refusal;

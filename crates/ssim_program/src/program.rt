@@ -3,7 +3,7 @@
 ghost use Rattle.std.specs.Prelude.{◌≡◌, ◌≤◌, ℕ, IsTrue, OnOk, false, map, true};
 ghost use Rattle.clap.specs.Words.{kind_of};
 ghost use Rattle.ssim_command_line.specs.Line.{Line, Spells};
-ghost use Rattle.ssim_command_line.specs.clauses.Request.{line_of};
+ghost use Rattle.ssim_command_line.specs.Line.{line_of};
 ghost use Rattle.ssim_command_line.specs.Usage.{Names, is_help};
 ghost use Rattle.ssim_program.specs.Again.{PrintsItself};
 ghost use Rattle.ssim_program.specs.Answers.{answers};
@@ -12,8 +12,8 @@ ghost use Rattle.ssim_program.specs.World.{Does, PrintsRefusal, world};
 ghost use Rattle.ssim_program.specs.internal.Program.{EndsWithoutRequest, SaysHelp};
 ghost use Rattle.ssim_program.specs.print.Paper.{Paper, new_paper};
 
+use crate::command::make;
 use crate::finish::finish;
-use crate::make::make;
 use crate::print::printer::{Printer, print_all, print_line};
 use crate::print::refusal_line::print_refusal;
 use crate::refusal::Refusal;

@@ -1,6 +1,6 @@
 -- What a command has made is printed and kept, or it is refused.
 use Rattle.std.proofs.Common.{◌≡◌, Err, ℕ, Option, rules, subst}
-use Rattle.ssim_command_line.specs.clauses.Request.{line_of}
+use Rattle.ssim_command_line.specs.Line.{line_of}
 use Rattle.ssim_program.specs.Answers.{answers}
 use Rattle.ssim_program.specs.Files.{Files}
 use Rattle.ssim_program.specs.World.{Does, world}

@@ -1,6 +1,6 @@
 -- The command is refused.
 use Rattle.std.proofs.Common.{ℕ, Err, Option, inr, subst}
-use Rattle.ssim_command_line.specs.clauses.Request.{line_of}
+use Rattle.ssim_command_line.specs.Line.{line_of}
 use Rattle.ssim_program.specs.Answers.{answers}
 use Rattle.ssim_program.specs.Files.{Files}
 use Rattle.ssim_program.specs.World.{Does, world}

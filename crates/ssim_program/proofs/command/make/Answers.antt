@@ -1,6 +1,6 @@
 -- Each request makes what its command does.
 use Rattle.std.proofs.Common.{◌≡◌, Bor, Err, List, ℕ, Ok, Option, Result, Vec, map, option_map, refl, subst, sym}
-use Rattle.ssim_command_line.specs.clauses.Request.{line_of}
+use Rattle.ssim_command_line.specs.Line.{line_of}
 use Rattle.ssim_command_line.specs.declared.command_line.Request.{Request}
 use Rattle.ssim_program.specs.Acts.{prints}
 use Rattle.ssim_program.specs.Answer.{Answer}
@@ -11,7 +11,7 @@ use Rattle.ssim_program.specs.internal.Program.{Answers, AreLines, MakesOr}
 use Rattle.ssim_program.specs.declared.made.Made.{Made}
 use Rattle.ssim_program.specs.declared.made.Made.TheVariants as made
 use Rattle.ssim_program.specs.declared.refusal.Refusal.{Refusal}
-use Rattle.ssim_program.proofs.make.make.Goals as goal
+use Rattle.ssim_program.proofs.command.make.Goals as goal
 
 made_of : {H : Type 0} (file : H → List ℕ) (files : Option Files) (request other : Request) (r : Result (Made H) Refusal) → request ≡ other → MakesOr file files (answers (line_of other) files) r → MakesOr file files (answers (line_of request) files) r
 made_of file files request other r is makes = subst (λ (q : Request). MakesOr file files (answers (line_of q) files) r) (sym is) makes
