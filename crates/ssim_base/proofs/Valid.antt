@@ -11,7 +11,8 @@ use Rattle.ssim_values.specs.DayMask.{digits_from}
 use Rattle.ssim_values.specs.Flight.{FlightNumber, IsFlight}
 use Rattle.ssim_values.specs.Period.{DayRange}
 use Rattle.ssim_values.specs.clauses.Period.{IsPeriod}
-use Rattle.ssim_periods.specs.Calendar.{day_count, holds, slot}
+use Rattle.ssim_periods.specs.Calendar.{day_count, holds}
+use Rattle.ssim_values.specs.Calendar.{slot}
 use Rattle.ssim_periods.specs.Cover.{first_where, break_after, period_at, cover_from}
 use Rattle.ssim_periods.specs.Pieces.{held_on, alone, has_value, values_of, pieces_with}
 use Rattle.ssim_periods.proofs.PieceLaw.{Every, Every-append, Every-sort}

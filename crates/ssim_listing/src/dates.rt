@@ -10,9 +10,8 @@ ghost use Rattle.ssim_listing.specs.internal.FlightDates.{text_line};
 use crate::leg_text::text_of;
 use crate::lines::push_day;
 use ssim_lines::{Printed, push_each};
-use ssim_periods::weekday_of;
 use ssim_schedule::{Itinerary, PlacedLeg};
-use ssim_values::{Day, Memory, Period};
+use ssim_values::{Day, Memory, Period, weekday_of};
 use std::alloc::Global;
 
 /// The calendar is cut into this many parts.

@@ -8,7 +8,8 @@ use Rattle.std.specs.List.{AllByRecursion}
 use Rattle.std.proofs.lemmas.Bool.Decides.{nat_tests}
 use Rattle.ssim_values.specs.Flight.{FlightNumber, IsFlight}
 use Rattle.ssim_values.specs.Period.{DayRange}
-use Rattle.ssim_periods.specs.Calendar.{day_count, holds, slot}
+use Rattle.ssim_periods.specs.Calendar.{day_count, holds}
+use Rattle.ssim_values.specs.Calendar.{slot}
 use Rattle.ssim_text.specs.declared.action.Action.{Action}
 use Rattle.ssim_base.proofs.Places.{same-self, same-true}
 use Rattle.ssim_base.specs.Export.{same_itinerary}

@@ -1,7 +1,8 @@
 //! The period of one date.
 
 ghost use Rattle.std.specs.Prelude.{◌≡◌, ℕ, false, nat_eq, slice_index_or, true};
-ghost use Rattle.ssim_periods.specs.Calendar.{holds, slot};
+ghost use Rattle.ssim_periods.specs.Calendar.{holds};
+ghost use Rattle.ssim_values.specs.Calendar.{slot};
 
 use ssim_values::{Day, DayMask, Period};
 

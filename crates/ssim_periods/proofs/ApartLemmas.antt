@@ -9,7 +9,8 @@ use Rattle.ssim_values.specs.Calendar.{weekday}
 use Rattle.ssim_values.specs.Period.{DayRange}
 use Rattle.ssim_values.specs.clauses.Period.{Holds}
 use Rattle.ssim_periods.specs.internal.Apart.{empty_week, value_in, AreDivided, AreApart}
-use Rattle.ssim_periods.specs.Calendar.{holds, slot}
+use Rattle.ssim_periods.specs.Calendar.{holds}
+use Rattle.ssim_values.specs.Calendar.{slot}
 use Rattle.ssim_periods.specs.clauses.Days.{AddsOnly}
 use Rattle.ssim_periods.specs.Days.{each_day, changed_on}
 use Rattle.ssim_periods.specs.Pieces.{held_on}

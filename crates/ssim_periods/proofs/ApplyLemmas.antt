@@ -7,7 +7,8 @@ use Rattle.ssim_periods.proofs.DayLemmas.{each_day-same, changed_on-each_day}
 use Rattle.std.proofs.lemmas.Bool.Decides.{nat_tests}
 use Rattle.std.proofs.lemmas.List.Elements.{All-cons}
 use Rattle.ssim_values.specs.Period.{DayRange}
-use Rattle.ssim_periods.specs.Calendar.{slot, holds}
+use Rattle.ssim_periods.specs.Calendar.{holds}
+use Rattle.ssim_values.specs.Calendar.{slot}
 use Rattle.ssim_periods.specs.internal.Count.{is_within}
 use Rattle.ssim_periods.specs.internal.Rows.{place, row_on, value_on, AreRows}
 use Rattle.ssim_periods.specs.internal.Splits.{has_cut, with_cut, with_row, patched, patched_from}

@@ -6,7 +6,7 @@ use Rattle.std.specs.Int.{bit_at}
 use Rattle.std.specs.Prelude.{bit_or, bit_xor, bit_and}
 use Rattle.std.proofs.lemmas.Nat.{shr-shr}
 use Rattle.std.proofs.lemmas.Nat.Bits.{bit_at_or, bit_at_xor, bit_at_and, bit_at-lt, bit_at_ones, bit_at_cat_low, bit_at_cat_high, bit_at_lowest, bit_at-suc}
-use Rattle.ssim_periods.specs.Calendar.{slot}
+use Rattle.ssim_values.specs.Calendar.{slot}
 use Rattle.ssim_periods.specs.Cover.{differ}
 use Rattle.ssim_periods.specs.internal.Bits.{week_of}
 use Rattle.ssim_periods.proofs.CoverLemmas.{le_or_lt}

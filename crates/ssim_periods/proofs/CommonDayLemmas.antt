@@ -4,7 +4,8 @@ use Rattle.std.proofs.Math.Bool.{and-false}
 use Rattle.std.proofs.lemmas.Bool.Decides.{nat_tests}
 use Rattle.std.specs.List.{list_any, range_with_len}
 use Rattle.ssim_values.specs.Period.{DayRange}
-use Rattle.ssim_periods.specs.Calendar.{day_count, holds, slot}
+use Rattle.ssim_periods.specs.Calendar.{day_count, holds}
+use Rattle.ssim_values.specs.Calendar.{slot}
 use Rattle.ssim_periods.specs.CommonDays.{have_common_date, meet}
 use Rattle.ssim_periods.proofs.DayLemmas.{day_count-is}
 

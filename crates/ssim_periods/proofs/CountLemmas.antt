@@ -2,20 +2,22 @@
 use Rattle.std.proofs.Common.{subst, ◌≡◌, ℕ, zero, suc, ◌+◌, ◌-◌, ◌*◌, ◌%◌, ◌<◌, ◌≤◌, Bool, true, false, ◌&&◌, if◌then◌else◌, nat_eq, nat_lt, List, [], ◌∷◌, map, length, refl, ap, ◌∙◌, sym, ◌≢◌, slice_index_or, slice_set, add-one, get_or-set_same, get_or-set_other, arith, ◌⊎◌, inl, inr}
 use Rattle.std.specs.List.{range_with_len}
 use Rattle.std.proofs.lemmas.Bool.Decides.{nat_tests}
-use Rattle.ssim_periods.specs.Calendar.{slot, day_count}
+use Rattle.ssim_periods.specs.Calendar.{day_count}
+use Rattle.ssim_values.specs.Calendar.{slot}
 use Rattle.ssim_periods.specs.Days.{each_day, count_on, counts_on}
 use Rattle.ssim_periods.proofs.DayLemmas.{day_count-is}
 use Rattle.std.specs.List.Sorted.{IsStrictlyIncreasing}
 use Rattle.ssim_periods.specs.internal.Rows.{place, row_on, value_on, AreRows}
-use Rattle.ssim_periods.specs.internal.Count.{below, with_days, tally, weigh, is_counted, is_within, is_of_class}
+use Rattle.ssim_periods.specs.internal.Count.{with_days, tally, weigh, is_counted, is_within, is_of_class}
+use Rattle.ssim_values.specs.clauses.Weekdays.{below}
 use Rattle.ssim_periods.proofs.RowLemmas.{row_on-place}
 use Rattle.ssim_periods.proofs.CutLemmas.{Above, Above-all, place-low}
 use Rattle.ssim_periods.proofs.ApplyLemmas.{inside, outside-before, outside-after}
 
-pub below-hit : (w x : ℕ) → w < 7 → (x + 5) % 7 ≡ w → below w (x + 1) ≡ below w x + 1
+pub below-hit : (w x : ℕ) → w < 7 → slot x ≡ w → below w (x + 1) ≡ below w x + 1
 below-hit w x h e = omega arith
 
-pub below-miss : (w x : ℕ) → w < 7 → ((x + 5) % 7 ≡ w → ⊥) → below w (x + 1) ≡ below w x
+pub below-miss : (w x : ℕ) → w < 7 → (slot x ≡ w → ⊥) → below w (x + 1) ≡ below w x
 below-miss w x h e = omega arith
 
 -- the days of a weekday from n to n + k

@@ -2,7 +2,8 @@
 -- before the first, before its break, or after it.
 use Rattle.std.proofs.Common.{◌≡◌, ℕ, zero, suc, ◌-◌, ◌<◌, ◌≤◌, Bool, true, false, ◌&&◌, if◌then◌else◌, nat_le, slice_index_or, refl, ap, ◌∙◌, sym, arith, inl, inr}
 use Rattle.std.proofs.lemmas.Bool.Decides.{nat_tests}
-use Rattle.ssim_periods.specs.Calendar.{slot, holds}
+use Rattle.ssim_periods.specs.Calendar.{holds}
+use Rattle.ssim_values.specs.Calendar.{slot}
 use Rattle.ssim_periods.specs.Cover.{last_where, weekdays_of, break_after, period_at, cover_from, holding, CoverLaw}
 use Rattle.ssim_periods.proofs.CoverLemmas.{le_or_lt, last_where-is, break_after-is, cover_from-step}
 

@@ -3,7 +3,7 @@ use Rattle.std.proofs.Common.{◌≡◌, ℕ, zero, suc, ◌+◌, ◌-◌, ◌*�
 use Rattle.std.proofs.Math.Bool.{beq}
 use Rattle.std.proofs.lemmas.Bool.Decides.{nat_tests}
 use Rattle.ssim_values.specs.Period.{DayRange}
-use Rattle.ssim_periods.specs.Calendar.{slot}
+use Rattle.ssim_values.specs.Calendar.{first_on, slot}
 use Rattle.ssim_periods.specs.Cover.{first_where, last_where, weekdays_of, differ, breaks, break_after}
 use Rattle.ssim_periods.specs.Cover.{cover_from, period_at}
 
@@ -94,7 +94,7 @@ last_where-is test n (suc k) h =
           (low, omega arith, ih.2, λ m a b. elim (same_or_less m (n + k) (omega arith)) [ inl at ↦ ap test at ∙ e | inr lt ↦ ih.3 m a lt ])
     ] refl
 
-pub weekdays_of-at : (is_in : ℕ → Bool) (a w : ℕ) → w < 7 → slice_index_or (weekdays_of is_in a) w false ≡ is_in (a + (w + 7 - slot a) % 7)
+pub weekdays_of-at : (is_in : ℕ → Bool) (a w : ℕ) → w < 7 → slice_index_or (weekdays_of is_in a) w false ≡ is_in (first_on w a)
 weekdays_of-at is_in a zero h = refl
 weekdays_of-at is_in a (suc zero) h = refl
 weekdays_of-at is_in a (suc (suc zero)) h = refl

@@ -4,7 +4,7 @@ use Rattle.std.proofs.lemmas.Bool.Decides.{nat_tests}
 use Rattle.ssim_values.specs.Period.{DayRange}
 use Rattle.ssim_values.specs.DayMask.{digits_from}
 use Rattle.ssim_periods.specs.Cover.{first_where, last_where, weekdays_of, differ, breaks, break_after, period_at, cover_from}
-use Rattle.ssim_periods.specs.Calendar.{slot}
+use Rattle.ssim_values.specs.Calendar.{slot}
 use Rattle.ssim_periods.proofs.CoverLemmas.{first_where-either, first_where-same, last_where-same, last_where-is, weekdays_of-own, break_after-is}
 
 -- the cover of the days from a set's day a on; none from the end on
@@ -75,7 +75,7 @@ cover_at-end is_in end a h =
 
 -- with no weekdays, a day differs if it is in the set
 pub first-in_set : (is_in : ℕ → Bool) (mask : List Bool) (n k : ℕ) → ((s : ℕ) → slice_index_or mask s false ≡ false) → first_where (breaks is_in mask) n k ≡ first_where is_in n k
-first-in_set is_in mask n k none = first_where-same (breaks is_in mask) is_in n k (λ m a b. ap (differ (is_in m)) (none ((m + 5) % 7)) ∙ off (is_in m))
+first-in_set is_in mask n k none = first_where-same (breaks is_in mask) is_in n k (λ m a b. ap (differ (is_in m)) (none (slot m)) ∙ off (is_in m))
   where
     off : (b : Bool) → differ b false ≡ b
     off true = refl

@@ -3,7 +3,7 @@
 use Rattle.std.proofs.Common.{◌≡◌, ◌≢◌, ℕ, zero, suc, ◌+◌, ◌-◌, ◌%◌, ◌<◌, ◌≤◌, Bool, true, false, nat_lt, List, [], ◌∷◌, slice_index_or, refl, ap, ◌∙◌, sym, subst, arith, ◌⊎◌, inl, inr}
 use Rattle.std.proofs.lemmas.Bool.Decides.{nat_tests}
 use Rattle.ssim_values.specs.Period.{DayRange}
-use Rattle.ssim_periods.specs.Calendar.{slot}
+use Rattle.ssim_values.specs.Calendar.{first_on, slot}
 use Rattle.ssim_periods.specs.Cover.{first_where, weekdays_of, differ, breaks, break_after, period_at, cover_from, cover, IsNextPeriod, AreDivision, DivisionLaw}
 use Rattle.ssim_periods.proofs.CoverLemmas.{le_or_lt, same_or_less, first_where-either, first_where-is, first_where-none, last_where-is, weekdays_of-own, differ-same, same-differ, cover_from-step}
 
@@ -61,9 +61,9 @@ one_division is_in (p ∷ ps) (q ∷ qs) from d e =
 
 -- a set that has the first day and no day from `end` on breaks its weekdays within the week from `end` on
 breaks-later : (is_in : ℕ → Bool) (a end : ℕ) → is_in a ≡ true → ((n : ℕ) → end ≤ n → is_in n ≡ false)
-    → breaks is_in (weekdays_of is_in a) (end + (slot a + 7 - slot end) % 7) ≡ true
+    → breaks is_in (weekdays_of is_in a) (first_on (slot a) end) ≡ true
 breaks-later is_in a end here outside =
-    let day = end + (slot a + 7 - slot end) % 7 in
+    let day = first_on (slot a) end in
     let same : slot day ≡ slot a = omega arith in
     let off : is_in day ≡ false = outside day (omega arith) in
     let on : slice_index_or (weekdays_of is_in a) (slot day) false ≡ true =
@@ -94,7 +94,7 @@ found-break is_in a end lt here outside =
     let mask = weekdays_of is_in a in
     let test = breaks is_in mask in
     let own : test a ≡ false = differ-same (is_in a) _ (sym (weekdays_of-own is_in a)) in
-    let later = end + (slot a + 7 - slot end) % 7 in
+    let later = first_on (slot a) end in
     elim (first_where-either test a (end + 7 - a)) [
       | inl none ↦ absurd (true-false (test later) (breaks-later is_in a end here outside) (none.1 later (omega arith) (omega arith)))
       | inr some ↦

@@ -5,7 +5,7 @@ use Rattle.std.proofs.Math.Bool.{or-false}
 use Rattle.std.proofs.lemmas.Bool.Decides.{nat_tests}
 use Rattle.std.proofs.lemmas.Option.{slice_get-map, slice_get_read, slice_get_within}
 use Rattle.ssim_values.specs.Period.{DayRange}
-use Rattle.ssim_periods.specs.Calendar.{slot}
+use Rattle.ssim_values.specs.Calendar.{slot}
 use Rattle.ssim_periods.specs.internal.Apart.{is_held}
 use Rattle.ssim_periods.specs.internal.Numbers.{is_between, is_numbered_in, is_numbered_on, AddsDays, HaveDays}
 use Rattle.ssim_periods.proofs.CoverLemmas.{le_or_lt}

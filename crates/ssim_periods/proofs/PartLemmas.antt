@@ -4,7 +4,8 @@ use Rattle.std.proofs.Common.{◌≡◌, ℕ, zero, suc, ◌+◌, ◌-◌, ◌<�
 use Rattle.std.proofs.Math.Bool.{and-false}
 use Rattle.std.proofs.lemmas.Bool.Decides.{nat_tests}
 use Rattle.ssim_values.specs.Period.{DayRange}
-use Rattle.ssim_periods.specs.Calendar.{holds, slot}
+use Rattle.ssim_periods.specs.Calendar.{holds}
+use Rattle.ssim_values.specs.Calendar.{slot}
 use Rattle.ssim_periods.specs.CommonDays.{meet}
 use Rattle.ssim_periods.specs.Pieces.{held_on}
 use Rattle.ssim_periods.specs.internal.Parts.{any_weekday, days_of_both, days_of_one, part, before_part, beside_part, after_part, common_part, first_of, first_part, second_part, third_part, with_value, with_outcome, kept_of, added_of}

@@ -1,6 +1,6 @@
 -- What the rows say of the days that have a value.
 use Rattle.std.proofs.Common.{◌≡◌, ℕ, ◌<◌, Bool, false, List, length, slice_index_or, ap, ◌∙◌, sym, arith}
-use Rattle.ssim_periods.specs.Calendar.{slot}
+use Rattle.ssim_values.specs.Calendar.{slot}
 use Rattle.ssim_periods.specs.Cover.{differ, breaks}
 use Rattle.ssim_periods.specs.Days.{each_day}
 use Rattle.ssim_periods.specs.Pieces.{has_value}

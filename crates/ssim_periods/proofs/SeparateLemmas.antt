@@ -7,7 +7,8 @@ use Rattle.std.proofs.Math.Path.{fun_ext}
 use Rattle.std.proofs.lemmas.List.{drop_more, map-append}
 use Rattle.ssim_values.specs.Period.{DayRange}
 use Rattle.ssim_periods.specs.internal.Apart.{held_cover, is_held}
-use Rattle.ssim_periods.specs.Calendar.{day_count, holds, slot}
+use Rattle.ssim_periods.specs.Calendar.{day_count, holds}
+use Rattle.ssim_values.specs.Calendar.{first_on, slot}
 use Rattle.ssim_periods.specs.Cover.{first_where, last_where, weekdays_of, differ, breaks, break_after, period_at, cover_from, cover}
 use Rattle.ssim_periods.proofs.CoverLemmas.{le_or_lt, first_where-none, first_where-is, first_where-either, first_where-same, last_where-is, last_where-at, last_where-same, differ-same, break_after-is}
 use Rattle.ssim_periods.proofs.CoverSteps.{cover_at, cover_from-at, cover_at-next, cover_at-end, first_where-low, first_where-found, range-is}
@@ -17,7 +18,7 @@ use Rattle.ssim_periods.proofs.DayLemmas.{day_count-is}
 
 week-same : (s t : ℕ → Bool) (a : ℕ) → ((n : ℕ) → a ≤ n → n < a + 7 → s n ≡ t n) → weekdays_of s a ≡ weekdays_of t a
 week-same s t a same =
-    let at = λ (w : ℕ) (h : w < 7). same (a + (w + 7 - slot a) % 7) (omega arith) (omega arith) in
+    let at = λ (w : ℕ) (h : w < 7). same (first_on w a) (omega arith) (omega arith) in
     let b = at 0 (omega arith) in let c = at 1 (omega arith) in let d = at 2 (omega arith) in let e = at 3 (omega arith) in let f = at 4 (omega arith) in let g = at 5 (omega arith) in let h = at 6 (omega arith) in
     cc
 

@@ -6,7 +6,8 @@ use Rattle.std.proofs.lemmas.Bool.Decides.{nat_tests}
 use Rattle.ssim_values.specs.DayMask.{IsMask}
 use Rattle.ssim_values.specs.Period.{DayRange}
 use Rattle.ssim_periods.specs.internal.Apart.{weekdays_within}
-use Rattle.ssim_periods.specs.Calendar.{day_count, holds, slot}
+use Rattle.ssim_periods.specs.Calendar.{day_count, holds}
+use Rattle.ssim_values.specs.Calendar.{first_on, slot}
 use Rattle.ssim_periods.specs.Cover.{first_where, last_where, weekdays_of, breaks, break_after, period_at, cover}
 use Rattle.ssim_periods.proofs.ApartLemmas.{holds-same}
 use Rattle.ssim_periods.proofs.BitLemmas.{seven-are}
@@ -120,9 +121,9 @@ first-of p mask from end first own found some_day =
           }
     ]
 
-weekday-at : (p : DayRange) (mask : List Bool) (first end w : ℕ) → mask ≡ p.days → end ≡ p.last + 1 → p.first ≤ first → w < 7 → (nat_lt (first + (w + 7 - slot first) % 7) end && slice_index_or mask w false) ≡ holds p (first + (w + 7 - slot first) % 7)
+weekday-at : (p : DayRange) (mask : List Bool) (first end w : ℕ) → mask ≡ p.days → end ≡ p.last + 1 → p.first ≤ first → w < 7 → (nat_lt (first_on w first) end && slice_index_or mask w false) ≡ holds p (first_on w first)
 weekday-at p mask first end w is e low lt =
-    let n = first + (w + 7 - slot first) % 7 in
+    let n = first_on w first in
     let own : w ≡ slot n = omega arith in
     elim (le_or_lt end n) [
       | inl late ↦ let off : nat_lt n end ≡ false = grind (arith, nat_tests) in ap (λ b. b && slice_index_or mask w false) off ∙ sym (behind p n (omega arith))
@@ -154,7 +155,7 @@ trim-some p mask from end first last days o fits a last_is days_are =
     let own : slice_index_or days (slot first) false ≡ true = ap (λ m. slice_index_or m (slot first) false) all ∙ weekdays_of-own is_in first ∙ here in
     let one : cover is_in day_count ≡ range first last (weekdays_of is_in first) ∷ [] = cover-one is_in day_count first end last lt (rw day_count-is (omega arith)) here a.early
     (λ n from to.
-    let m = first + (slot n + 7 - slot first) % 7 in
+    let m = first_on (slot n) first in
     let le : m ≤ n = omega arith in let same : slot m ≡ slot n = omega arith in
     sym (weekdays_of-at is_in first (slot n) (omega arith) ∙ holds-same p m n le same (λ h. absurd (omega arith)) (λ h. omega arith)))
     (λ n h. behind p n (omega arith)) (omega arith) (omega arith)
@@ -170,8 +171,8 @@ trim-some p mask from end first last days o fits a last_is days_are =
 
 -- a period of a week or more that holds its first and its last day
 
-within-week : (days : List Bool) (first end w : ℕ) → w < 7 → first + 7 ≤ end → (nat_lt (first + (w + 7 - slot first) % 7) end && slice_index_or days w false) ≡ slice_index_or days w false
-within-week days first end w lt week = let on : nat_lt (first + (w + 7 - slot first) % 7) end ≡ true = grind (arith, nat_tests) in ap (λ b. b && slice_index_or days w false) on
+within-week : (days : List Bool) (first end w : ℕ) → w < 7 → first + 7 ≤ end → (nat_lt (first_on w first) end && slice_index_or days w false) ≡ slice_index_or days w false
+within-week days first end w lt week = let on : nat_lt (first_on w first) end ≡ true = grind (arith, nat_tests) in ap (λ b. b && slice_index_or days w false) on
 
 weekdays_within-whole : (days : List Bool) (first end : ℕ) → length days ≡ 7 → first + 7 ≤ end → days ≡ weekdays_within days first end
 weekdays_within-whole days first end seven week =

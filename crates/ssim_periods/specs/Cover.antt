@@ -2,7 +2,8 @@
 -- `end` on passes.
 use Rattle.std.specs.Prelude.{◌≡◌, ◌≢◌, ◌↔◌, ℕ, zero, suc, ◌+◌, ◌-◌, ◌%◌, ◌≤◌, ◌<◌, Bool, true, false, not, if◌then◌else◌, nat_lt, List, [], ◌∷◌, map, slice_index_or}
 use Rattle.ssim_values.specs.Period.{DayRange}
-use Rattle.ssim_periods.specs.Calendar.{slot, holds}
+use Rattle.ssim_periods.specs.Calendar.{holds}
+use Rattle.ssim_values.specs.Calendar.{first_on, slot}
 
 -- the first of the k days from n on that passes; n + k if none does
 abbrev pub first_where : (ℕ → Bool) → ℕ → ℕ → ℕ
@@ -17,7 +18,7 @@ last_where test n (suc k) = if test (n + k) then n + k else last_where test n k
 -- the weekdays, Monday first, of the set's days from a to a + 6
 abbrev pub weekdays_of : (ℕ → Bool) → ℕ → List Bool
 weekdays_of is_in a =
-    map (λ weekday. is_in (a + (weekday + 7 - slot a) % 7)) (0 ∷ 1 ∷ 2 ∷ 3 ∷ 4 ∷ 5 ∷ 6 ∷ [])
+    map (λ weekday. is_in (first_on weekday a)) (0 ∷ 1 ∷ 2 ∷ 3 ∷ 4 ∷ 5 ∷ 6 ∷ [])
 
 -- whether two tests differ
 abbrev pub differ : Bool → Bool → Bool

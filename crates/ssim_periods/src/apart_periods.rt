@@ -27,9 +27,8 @@ use crate::apart_periods::within::{added_parts, counts_within, divide, keeps_emp
 use crate::range_rows::RangeRows;
 use crate::range_rows::count::counts_of;
 use crate::rows::{is_after_cuts, is_before_cuts};
-use crate::weekdays::weekday_of;
 use crate::{Change, Value};
-use ssim_values::{Day, Memory, Period};
+use ssim_values::{Day, Memory, Period, weekday_of};
 use std::alloc::Global;
 use std::marker::Model;
 

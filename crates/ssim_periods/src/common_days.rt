@@ -3,8 +3,7 @@ ghost use Rattle.std.specs.Prelude.{◌≡◌, ℕ, ◌<◌, ◌≤◌, ◌&&◌
 ghost use Rattle.ssim_periods.specs.Calendar.{holds};
 ghost use Rattle.ssim_periods.specs.CommonDays.{meet};
 
-use crate::weekdays::first_on;
-use ssim_values::Period;
+use ssim_values::{Period, first_on};
 
 /// Whether two periods have no day in common. Mostly one ends before the other begins.
 #[inline(always)]

@@ -1,7 +1,7 @@
 //! The parts of which covers are made.
 ghost use Rattle.std.specs.Prelude.{◌≡◌, ℕ, ◌+◌, ◌-◌, ◌<◌, ◌≤◌, false, true, slice_index_or};
 ghost use Rattle.ssim_values.specs.DayMask.{IsMask};
-ghost use Rattle.ssim_periods.specs.Calendar.{slot};
+ghost use Rattle.ssim_values.specs.Calendar.{slot};
 ghost use Rattle.ssim_periods.specs.Cover.{first_where, last_where, differ};
 
 pub(crate) mod separate;
@@ -9,8 +9,7 @@ pub(crate) mod trim;
 pub(crate) mod union;
 
 use crate::Value;
-use crate::weekdays::weekday_of;
-use ssim_values::{Day, DayMask, Period};
+use ssim_values::{Day, DayMask, Period, weekday_of};
 
 // The first day of a range with one row that has the value although its weekday is not one of
 // `days`, or the other way round. The end of the range if there is none. Looks at no more than

@@ -39,7 +39,6 @@ mod rows;
 mod value;
 mod value_key;
 mod weekday_bits;
-mod weekdays;
 
 pub use common_days::{are_apart, meets};
 pub use cover::union::union;
@@ -49,4 +48,3 @@ pub use periods::pieces::{
 };
 pub use ssim_values::Memory;
 pub use value::{Change, Value};
-pub use weekdays::weekday_of;

@@ -17,9 +17,8 @@ use crate::range_rows::count::class_counts;
 use crate::range_rows::patches::{new_rows, put_period};
 use crate::range_rows::row_copies::{shared_row, shared_rows};
 use crate::rows::{copy_row, copy_rows, place_of, row_for_cut};
-use crate::weekdays::weekday_of;
 use crate::{Change, Value};
-use ssim_values::{Day, Memory, Period};
+use ssim_values::{Day, Memory, Period, weekday_of};
 use std::alloc::Global;
 use std::marker::Model;
 

@@ -4,10 +4,11 @@ ghost use Rattle.std.specs.List.{All};
 ghost use Rattle.std.specs.List.Sorted.{IsStrictlyIncreasing};
 ghost use Rattle.ssim_periods.specs.internal.Rows.{place, row_on};
 ghost use Rattle.ssim_periods.specs.internal.Splits.{has_cut};
-ghost use Rattle.ssim_periods.specs.internal.Count.{below, with_days};
+ghost use Rattle.ssim_periods.specs.internal.Count.{with_days};
+ghost use Rattle.ssim_values.specs.clauses.Weekdays.{below};
 
 use crate::Value;
-use ssim_values::Memory;
+use ssim_values::{Memory, days_before};
 use std::alloc::Global;
 
 /// The number of days from 1 January 2000 to 31 December 2099.
@@ -101,15 +102,6 @@ pub(crate) fn range_end(cuts: &[u32], place: usize, end: u32) -> u32
     } else {
         end
     }
-}
-
-// The number of days before a day that have a weekday, from 0 for Monday.
-pub(crate) fn days_before(weekday: u32, day: u32) -> u32
-    requires weekday { weekday < 7 }
-    requires in_calendar { day ≤ 36525 }
-    ensures { result ≡ below weekday day }
-{
-    (day + 6 - (weekday + 2) % 7) / 7
 }
 
 // Whether a weekday is in the mask and has a day in a range.

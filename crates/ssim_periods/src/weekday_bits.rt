@@ -1,10 +1,10 @@
 //! Sets of weekdays as bits.
 ghost use Rattle.std.specs.Prelude.{◌≡◌, ℕ, ◌+◌, ◌<◌, ◌||◌, false, nat_eq, slice_index_or, IsTrue};
 ghost use Rattle.std.specs.Int.{bit_at};
-ghost use Rattle.ssim_periods.specs.Calendar.{slot};
+ghost use Rattle.ssim_values.specs.Calendar.{slot};
 ghost use Rattle.ssim_periods.specs.Cover.{differ};
 
-use crate::weekdays::weekday_of;
+use ssim_values::weekday_of;
 use std::marker::Model;
 
 /// A set of weekdays. All of it is compared at once.

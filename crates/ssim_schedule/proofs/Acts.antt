@@ -5,7 +5,8 @@ use Rattle.std.specs.List.{list_any}
 use Rattle.std.proofs.lemmas.Bool.Decides.{nat_tests}
 use Rattle.std.proofs.lemmas.Slice.Eq.{bytes_eq-Decides}
 use Rattle.ssim_values.specs.Period.{DayRange}
-use Rattle.ssim_periods.specs.Calendar.{holds, slot}
+use Rattle.ssim_periods.specs.Calendar.{holds}
+use Rattle.ssim_values.specs.Calendar.{slot}
 use Rattle.ssim_periods.specs.clauses.Days.{AddsOnly}
 use Rattle.ssim_periods.specs.Days.{changed_on, count_on, counts_on}
 use Rattle.ssim_text.specs.declared.leg.LegLine.{LegLine}

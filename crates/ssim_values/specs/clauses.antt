@@ -3,3 +3,4 @@
 pub mod DayMask
 pub mod Period
 pub mod Flight
+pub mod Weekdays

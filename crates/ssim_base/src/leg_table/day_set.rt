@@ -5,8 +5,7 @@ ghost use Rattle.std.specs.Prelude.{◌≡◌, ℕ, ◌<◌, ◌||◌, false, na
 ghost use Rattle.ssim_periods.specs.Calendar.{holds};
 ghost use Rattle.ssim_base.specs.internal.Dates.{has_date};
 
-use ssim_periods::weekday_of;
-use ssim_values::{Memory, Period};
+use ssim_values::{Memory, Period, weekday_of};
 use std::alloc::Global;
 
 /// The number of words that have a bit for each date from 1 January 2000 to 31 December 2099.

@@ -3,7 +3,8 @@ use Rattle.std.specs.Prelude.{◌≡◌, ◌≢◌, ℕ, ◌+◌, ◌-◌, ◌%�
 use Rattle.std.specs.List.{All, Contains, list_any}
 use Rattle.std.specs.List.Sorted.{IsStrictlyIncreasing}
 use Rattle.ssim_values.specs.Period.{DayRange}
-use Rattle.ssim_periods.specs.Calendar.{day_count, holds, slot}
+use Rattle.ssim_periods.specs.Calendar.{day_count, holds}
+use Rattle.ssim_values.specs.Calendar.{first_on, slot}
 use Rattle.ssim_periods.specs.Cover.{cover}
 use Rattle.ssim_periods.specs.clauses.Days.{Seen, changed_by_each, ends_of}
 use Rattle.ssim_periods.specs.Days.{each_day}
@@ -95,5 +96,5 @@ last_values alike (given ∷ later) =
 -- which of the weekdays, Monday first, have one of the seven days from `first` on before `end`
 abbrev pub weekdays_within : List Bool → ℕ → ℕ → List Bool
 weekdays_within days first end =
-    map (λ weekday. nat_lt (first + (weekday + 7 - slot first) % 7) end
+    map (λ weekday. nat_lt (first_on weekday first) end
     && slice_index_or days weekday false) (0 ∷ 1 ∷ 2 ∷ 3 ∷ 4 ∷ 5 ∷ 6 ∷ [])

@@ -1,11 +1,8 @@
 -- Days counted by arithmetic.
-use Rattle.ssim_periods.specs.Calendar.{slot}
+use Rattle.ssim_values.specs.Calendar.{slot}
+use Rattle.ssim_values.specs.clauses.Weekdays.{below}
 use Rattle.ssim_periods.specs.internal.Rows.{value_on}
-use Rattle.std.specs.Prelude.{[], ◌∷◌, nat_le, nat_lt, ℕ, zero, suc, ◌+◌, ◌-◌, ◌/◌, ◌%◌, Bool, false, ◌&&◌, nat_eq, List, slice_index_or, if◌then◌else◌}
-
--- how many days before x have the weekday with this index
-abbrev pub below : ℕ → ℕ → ℕ
-below w x = (x + 6 - (w + 2) % 7) / 7
+use Rattle.std.specs.Prelude.{[], ◌∷◌, nat_le, nat_lt, ℕ, zero, suc, ◌+◌, Bool, false, ◌&&◌, nat_eq, List, slice_index_or, if◌then◌else◌}
 
 -- the weekdays of a mask that have a day from `from` to before `to`; w is the index of the first
 -- weekday

@@ -2,13 +2,13 @@
 ghost use Rattle.std.specs.Prelude.{◌≡◌, ℕ, ◌+◌, ◌<◌, ◌≤◌, ◌∷◌, [], true, false, slice_index_or, IsTrue};
 ghost use Rattle.std.specs.List.{flat_map};
 ghost use Rattle.ssim_periods.specs.internal.Apart.{is_held};
-ghost use Rattle.ssim_periods.specs.Calendar.{day_count, slot};
+ghost use Rattle.ssim_periods.specs.Calendar.{day_count};
+ghost use Rattle.ssim_values.specs.Calendar.{slot};
 ghost use Rattle.ssim_periods.specs.Cover.{cover};
 
 use crate::cover::trim::{first_in, trimmed};
 use crate::rows::DAYS;
-use crate::weekdays::weekday_of;
-use ssim_values::Period;
+use ssim_values::{Period, weekday_of};
 
 // Whether some periods in order of their first days lie so far apart that the cover of their days
 // is the cover of each, one after another. They are looked at from the last one on. May be false

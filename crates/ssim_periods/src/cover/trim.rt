@@ -2,12 +2,12 @@
 ghost use Rattle.std.specs.Prelude.{◌≡◌, ℕ, ◌+◌, ◌-◌, ◌%◌, ◌<◌, ◌≤◌, ◌&&◌, false, true, nat_lt, [], ◌∷◌, slice_index_or, IfSome, IfNone, IsTrue};
 ghost use Rattle.ssim_values.specs.clauses.Period.{IsPeriod};
 ghost use Rattle.ssim_periods.specs.internal.Apart.{weekdays_within};
-ghost use Rattle.ssim_periods.specs.Calendar.{day_count, holds, slot};
+ghost use Rattle.ssim_periods.specs.Calendar.{day_count, holds};
+ghost use Rattle.ssim_values.specs.Calendar.{first_on, slot};
 ghost use Rattle.ssim_periods.specs.Cover.{cover, first_where};
 
 use crate::cover::{last_in, period_of};
-use crate::weekdays::{first_on, weekday_of};
-use ssim_values::Period;
+use ssim_values::{Period, first_on, weekday_of};
 
 // The period from the first to the last day of a period that it holds, on the weekdays that these
 // days have. None if it holds no day.
@@ -71,7 +71,7 @@ pub(crate) fn first_in(days: &[bool; 7], from: u32, to: u32) -> u32
 fn has_weekday(days: &[bool; 7], weekday: u32, first: u32, end: u32) -> bool
     requires weekday { weekday < 7 }
     requires in_calendar { first < 36525 }
-    ensures { result ≡ (nat_lt (first + (weekday + 7 - slot first) % 7) end
+    ensures { result ≡ (nat_lt (first_on weekday first) end
         && slice_index_or days.now weekday false) }
 {
     let day = first_on(weekday, first);

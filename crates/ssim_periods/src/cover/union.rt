@@ -1,11 +1,11 @@
 //! Periods with the days of several periods.
 ghost use Rattle.std.specs.Prelude.{◌≡◌, ◌⊎◌, ℕ, ◌+◌, ◌<◌, ◌≤◌, ◌||◌, false, length, max, slice_index_or, IfSome, IsTrue, OnOk};
 ghost use Rattle.ssim_periods.specs.internal.Apart.{is_held};
-ghost use Rattle.ssim_periods.specs.Calendar.{holds, slot};
+ghost use Rattle.ssim_periods.specs.Calendar.{holds};
+ghost use Rattle.ssim_values.specs.Calendar.{slot};
 
 use crate::weekday_bits::WeekdayBits;
-use crate::weekdays::weekday_of;
-use ssim_values::{DayMask, Memory, Period};
+use ssim_values::{DayMask, Memory, Period, weekday_of};
 
 /// How many of the last periods of a list are tried, at most.
 const TRIED: usize = 4;

@@ -1,15 +1,16 @@
 //! Days counted by arithmetic.
 ghost use Rattle.std.specs.Prelude.{◌≡◌, ℕ, ◌+◌, ◌-◌, ◌<◌, ◌≤◌, [], length, slice_index};
 ghost use Rattle.std.specs.List.{All};
-ghost use Rattle.ssim_periods.specs.Calendar.{holds, slot};
+ghost use Rattle.ssim_periods.specs.Calendar.{holds};
+ghost use Rattle.ssim_values.specs.Calendar.{slot};
 ghost use Rattle.ssim_periods.specs.Days.{counts_on, each_day};
 ghost use Rattle.ssim_periods.specs.internal.Count.{tally, is_counted, is_of_class};
 ghost use Rattle.ssim_periods.specs.internal.Rows.{AreRows};
 
 use crate::numbers::{NONE, ValueNumber};
-use crate::rows::{days_before, has_days, place_of, range_end, row_at};
+use crate::rows::{has_days, place_of, range_end, row_at};
 use crate::{Change, Value};
-use ssim_values::{Memory, Period};
+use ssim_values::{Memory, Period, days_before};
 use std::alloc::Global;
 
 // The change of one value, as a change that finds the class of this value on each day.

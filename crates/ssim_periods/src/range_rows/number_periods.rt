@@ -1,7 +1,8 @@
 //! The periods of the days with each number.
 ghost use Rattle.std.specs.Prelude.{◌≡◌, ℕ, ◌+◌, ◌<◌, ◌≤◌, ◌&&◌, [], length, map, nat_eq};
 ghost use Rattle.std.specs.Prelude.{replicate, slice_index_or, IfOk, OnOk};
-ghost use Rattle.ssim_periods.specs.Calendar.{holds, slot};
+ghost use Rattle.ssim_periods.specs.Calendar.{holds};
+ghost use Rattle.ssim_values.specs.Calendar.{slot};
 ghost use Rattle.ssim_periods.specs.internal.Numbers.{is_between, is_numbered_in, is_numbered_on};
 ghost use Rattle.ssim_periods.specs.internal.Numbers.{AddsDays, HaveDays};
 
@@ -10,8 +11,7 @@ use crate::cover::union::join;
 use crate::numbers::ValueNumber;
 use crate::range_rows::RangeRows;
 use crate::rows::{DAYS, place_of, range_end, row_at};
-use crate::weekdays::first_on;
-use ssim_values::{Memory, Period};
+use ssim_values::{Memory, Period, first_on};
 use std::alloc::Global;
 
 impl RangeRows<ValueNumber> {

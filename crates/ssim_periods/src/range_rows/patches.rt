@@ -2,7 +2,7 @@
 ghost use Rattle.std.specs.Prelude.{◌≡◌, ℕ, ◌+◌, ◌-◌, ◌<◌, ◌≤◌, Bool, false, unwrap_or, is_none, map, List, [], ◌∷◌, length, IfOk, slice_index_or, vec_len, vec_capacity, if◌then◌else◌, Some, None, IfSome};
 ghost use Rattle.std.specs.List.{All};
 ghost use Rattle.std.specs.List.Sorted.{IsStrictlyIncreasing};
-ghost use Rattle.ssim_periods.specs.Calendar.{slot};
+ghost use Rattle.ssim_values.specs.Calendar.{slot};
 ghost use Rattle.ssim_periods.specs.internal.Count.{with_days};
 ghost use Rattle.ssim_periods.specs.internal.Rows.{place, value_on, AreRows};
 ghost use Rattle.ssim_periods.specs.internal.Splits.{has_cut, with_cut, with_row, patch_of, patched, patched_from};

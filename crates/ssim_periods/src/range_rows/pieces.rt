@@ -1,6 +1,7 @@
 //! The pieces of a list of one value per day, read from the rows.
 ghost use Rattle.std.specs.Prelude.{◌≡◌, length, ℕ, ◌+◌, ◌-◌, ◌%◌, ◌<◌, ◌≤◌, ◌++◌, map, IfOk, OnOk};
-ghost use Rattle.ssim_periods.specs.Calendar.{day_count, slot};
+ghost use Rattle.ssim_periods.specs.Calendar.{day_count};
+ghost use Rattle.ssim_values.specs.Calendar.{first_on, slot};
 ghost use Rattle.ssim_periods.specs.Cover.{first_where, cover, weekdays_of, breaks};
 ghost use Rattle.ssim_periods.specs.Pieces.{has_value, pieces_of};
 
@@ -10,8 +11,7 @@ use crate::cover::{last_in, period_of, unlike_in_row};
 use crate::numbers::numbered_days;
 use crate::range_rows::RangeRows;
 use crate::rows::{DAYS, place_of, range_end, row_at};
-use crate::weekdays::first_on;
-use ssim_values::{Day, Memory, Period};
+use ssim_values::{Day, Memory, Period, first_on};
 
 const NO_DAYS: [bool; 7] = [false; 7];
 
@@ -99,7 +99,7 @@ impl<V: Value> RangeRows<V> {
         requires in_calendar { first < 36525 }
         requires all_days { length self.now.days ≡ 36525 }
         ensures { result ≡ has_value V.alike self.now.days value.now
-            (first + (weekday + 7 - slot first) % 7) }
+            (first_on weekday first) }
     {
         let day = first_on(weekday, first);
         match Day::from_number(day as u16) {

@@ -1,6 +1,6 @@
 -- No day is in two periods whose masks have no weekday in common.
 use Rattle.std.proofs.Common.{max, min, refl, ◌∙◌, arith}
-use Rattle.ssim_periods.specs.Calendar.{slot}
+use Rattle.ssim_values.specs.Calendar.{slot}
 use Rattle.ssim_periods.proofs.CommonDayLemmas.{meet-none, meet-nowhere, no-weekday}
 use Rattle.ssim_periods.proofs.common_days.are_of_other_weekdays.Goals as goal
 

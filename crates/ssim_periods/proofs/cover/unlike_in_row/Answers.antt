@@ -1,5 +1,5 @@
 use Rattle.std.proofs.Common.{◌≡◌, ◌+◌, ◌-◌, ℕ, false, true, slice_index_or, ap, sym, ◌∙◌, arith, inl, inr}
-use Rattle.ssim_periods.specs.Calendar.{slot}
+use Rattle.ssim_values.specs.Calendar.{slot}
 use Rattle.ssim_periods.specs.Cover.{differ}
 use Rattle.ssim_periods.proofs.RowLemmas.{index-default}
 use Rattle.ssim_periods.proofs.CoverLemmas.{first_where-is, first_where-none, none-from_week, differ-tested}

@@ -1,7 +1,7 @@
 -- The same weekday a week after the last day, or the first day that was found, is between the two.
 use Rattle.std.proofs.Common.{◌≡◌, ℕ, ◌+◌, ◌-◌, ◌<◌, false, true, slice_index_or, ap, sym, ◌∙◌, arith}
 use Rattle.std.proofs.lemmas.Bool.Decides.{nat_tests}
-use Rattle.ssim_periods.specs.Calendar.{slot}
+use Rattle.ssim_values.specs.Calendar.{slot}
 use Rattle.ssim_periods.proofs.CoverSteps.{first_where-low, first_where-found}
 use Rattle.ssim_periods.proofs.cover.separate.breaks_off_before.Goals as goal
 

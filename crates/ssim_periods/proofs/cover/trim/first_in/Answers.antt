@@ -1,5 +1,5 @@
 use Rattle.std.proofs.Common.{◌≡◌, ◌+◌, ◌-◌, ℕ, false, slice_index_or, ap, sym, ◌∙◌, arith}
-use Rattle.ssim_periods.specs.Calendar.{slot}
+use Rattle.ssim_values.specs.Calendar.{slot}
 use Rattle.ssim_periods.proofs.CoverLemmas.{first_where-is, first_where-none}
 use Rattle.ssim_periods.proofs.cover.trim.first_in.Goals as goal
 

@@ -1,7 +1,7 @@
 use Rattle.std.proofs.Common.{◌≡◌, ℕ, ◌<◌, List, ◌∷◌, length, slice_get, slice_index_or, Some, ◌-◌, ap, sym, ◌∙◌, arith, zero, suc}
 use Rattle.ssim_periods.specs.Days.{each_day}
 use Rattle.ssim_periods.specs.clauses.Days.{Seen}
-use Rattle.ssim_periods.specs.Calendar.{slot}
+use Rattle.ssim_values.specs.Calendar.{slot}
 use Rattle.ssim_periods.specs.internal.Rows.{place, row_on, value_on, AreRows}
 use Rattle.ssim_periods.proofs.DayLemmas.{get-each_day}
 use Rattle.ssim_periods.proofs.RowLemmas.{row_on-place, value_on-at}

@@ -1,6 +1,6 @@
 -- Each range is looked at by a week of its days, since the value repeats weekly within it.
 use Rattle.std.proofs.Common.{◌≡◌, ◌+◌, ◌-◌, ◌<◌, ◌≤◌, ℕ, false, ◌∷◌, length, slice_index_or, ap, sym, ◌∙◌, arith, rules, inl, inr}
-use Rattle.ssim_periods.specs.Calendar.{slot}
+use Rattle.ssim_values.specs.Calendar.{slot}
 use Rattle.ssim_periods.specs.Cover.{differ, breaks}
 use Rattle.ssim_periods.specs.Pieces.{has_value}
 use Rattle.ssim_periods.specs.internal.Rows.{place}

@@ -1,12 +1,12 @@
 use Rattle.std.proofs.Common.{◌+◌, ◌-◌, ◌%◌, length, sym, arith, inl, inr}
-use Rattle.ssim_periods.specs.Calendar.{slot}
+use Rattle.ssim_values.specs.Calendar.{first_on, slot}
 use Rattle.ssim_periods.proofs.CountLemmas.{le_or_lt}
 use Rattle.ssim_periods.proofs.PieceLaw.{has_value-past}
 use Rattle.ssim_periods.proofs.range_rows.RangeRows.has_on.Goals as goal
 
 pub returns-in-None : goal.returns-in-None
 returns-in-None g c =
-    let day = c.args.first + (c.args.weekday + 7 - slot c.args.first) % 7 in
+    let day = first_on c.args.weekday c.args.first in
     let len = c.requires.all_days in
     let s = c.in-None.ensures.some in
     elim (le_or_lt (length c.args.self.now.days) day) [

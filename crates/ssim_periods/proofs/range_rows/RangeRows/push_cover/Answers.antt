@@ -1,7 +1,7 @@
 -- What is pushed, with the cover from the next day that has the value on, is always the whole
 -- cover.
 use Rattle.std.proofs.Common.{◌≡◌, ◌-◌, ◌++◌, map, length, append-nil, ap, sym, ◌∙◌, arith, rules}
-use Rattle.ssim_periods.specs.Calendar.{slot}
+use Rattle.ssim_values.specs.Calendar.{slot}
 use Rattle.ssim_periods.specs.Cover.{first_where, break_after, period_at}
 use Rattle.ssim_periods.specs.Pieces.{has_value}
 use Rattle.ssim_periods.proofs.DayLemmas.{length-each_day}

@@ -2,7 +2,7 @@
 -- give for each day.
 use Rattle.std.proofs.Common.{◌≡◌, ◌+◌, ◌-◌, List, [], map, length, slice_index_or, Vec, Global, Option, Some, None, if◌then◌else◌, false, ap, sym, subst, ◌∙◌, arith, rules}
 use Rattle.std.specs.List.Sorted.{IsStrictlyIncreasing}
-use Rattle.ssim_periods.specs.Calendar.{slot}
+use Rattle.ssim_values.specs.Calendar.{slot}
 use Rattle.ssim_periods.specs.clauses.Days.{AddsOnly}
 use Rattle.ssim_periods.specs.Days.{changed_on}
 use Rattle.ssim_periods.specs.internal.Rows.{place, value_on, AreRows}

@@ -1,6 +1,6 @@
 -- Each range that is passed adds the days of its row that have a class.
 use Rattle.std.proofs.Common.{◌≡◌, ◌+◌, ◌-◌, ◌<◌, ◌≤◌, ◌∷◌, length, slice_index_or, ap, refl, sym, subst, ◌∙◌, arith, rules}
-use Rattle.ssim_periods.specs.Calendar.{slot}
+use Rattle.ssim_values.specs.Calendar.{slot}
 use Rattle.ssim_periods.specs.internal.Rows.{place}
 use Rattle.ssim_periods.specs.internal.Count.{tally, is_counted, is_of_class}
 use Rattle.ssim_periods.proofs.RowLemmas.{place-le, index-default}

@@ -2,7 +2,7 @@
 use Rattle.std.proofs.Common.{◌≡◌, ℕ, ◌+◌, ◌-◌, ◌<◌, ◌≤◌, ◌&&◌, ◌||◌, nat_eq, ap, ◌∙◌, arith, rules, length, sym}
 use Rattle.std.proofs.lemmas.Result.{on_ok_weaker}
 use Rattle.ssim_periods.specs.internal.Apart.{is_held}
-use Rattle.ssim_periods.specs.Calendar.{slot}
+use Rattle.ssim_values.specs.Calendar.{slot}
 use Rattle.ssim_periods.specs.internal.Numbers.{is_between}
 use Rattle.ssim_periods.proofs.NumberPeriods.{adds-one}
 use Rattle.ssim_periods.proofs.range_rows.number_periods.add_weekday.Goals as goal

@@ -1,5 +1,6 @@
 use Rattle.std.proofs.Common.{length, ◌&&◌, nat_lt, ◌≡◌, ℕ, List, slice_index_or, Option, Some, None, Bool, true, false, if◌then◌else◌, refl, ap, sym, ◌∙◌, arith, subst, IfSome}
-use Rattle.ssim_periods.specs.internal.Count.{below, with_days}
+use Rattle.ssim_periods.specs.internal.Count.{with_days}
+use Rattle.ssim_values.specs.clauses.Weekdays.{below}
 use Rattle.ssim_periods.proofs.CountLemmas.{with_days-at, length-with_days}
 use Rattle.ssim_periods.proofs.RowLemmas.{index-default}
 use Rattle.ssim_periods.proofs.SplitLemmas.{patch_of-told, patch_of-done}

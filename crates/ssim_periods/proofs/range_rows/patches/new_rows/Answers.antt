@@ -1,7 +1,7 @@
 -- Each range that is passed adds the patch of its row, which has the new value of each of its days.
 use Rattle.std.proofs.Common.{◌≡◌, ◌+◌, ◌-◌, ◌≤◌, false, if◌then◌else◌, List, [], ◌∷◌, ◌++◌, length, map, slice_index_or, vec_len, Option, Some, None, Vec, Global, ap, refl, sym, subst, ◌∙◌, arith, rules, inl, inr}
 use Rattle.std.specs.List.{All}
-use Rattle.ssim_periods.specs.Calendar.{slot}
+use Rattle.ssim_values.specs.Calendar.{slot}
 use Rattle.ssim_periods.specs.internal.Count.{with_days}
 use Rattle.ssim_periods.specs.internal.Rows.{place, row_on, value_on}
 use Rattle.ssim_periods.proofs.RowLemmas.{place-le, row_on-place, row_on-week, slot-lt}

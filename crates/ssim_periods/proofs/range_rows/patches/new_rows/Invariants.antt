@@ -1,6 +1,6 @@
 use Rattle.std.proofs.Common.{◌≡◌, ◌+◌, ◌-◌, ◌<◌, ◌≤◌, ℕ, false, map, [], slice_index_or, vec_len, if◌then◌else◌, Some, None}
 use Rattle.std.specs.List.{All}
-use Rattle.ssim_periods.specs.Calendar.{slot}
+use Rattle.ssim_values.specs.Calendar.{slot}
 use Rattle.ssim_periods.specs.internal.Rows.{place, value_on}
 use Rattle.ssim_periods.proofs.range_rows.patches.new_rows.Given as goal
 

@@ -1,5 +1,5 @@
 use Rattle.std.proofs.Common.{◌+◌, List, Bool, false, slice_index_or, ap, ◌∙◌}
-use Rattle.ssim_periods.specs.Calendar.{slot}
+use Rattle.ssim_values.specs.Calendar.{slot}
 use Rattle.ssim_periods.proofs.BitLemmas.{week_of-ahead}
 use Rattle.ssim_periods.proofs.weekday_bits.WeekdayBits.from_day.Goals as goal
 

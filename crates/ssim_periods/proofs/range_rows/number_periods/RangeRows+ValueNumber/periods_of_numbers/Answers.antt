@@ -1,7 +1,7 @@
 -- Each range reaches to the next cut, and its days have the numbers of its row.
 use Rattle.std.proofs.Common.{◌≡◌, ◌+◌, ◌-◌, ◌<◌, ◌≤◌, ℕ, ◌∷◌, [], List, Some, length, map, replicate, slice_get, slice_index_or, ap, subst, sym, ◌∙◌, arith, rules}
 use Rattle.std.proofs.lemmas.List.{length-map}
-use Rattle.ssim_periods.specs.Calendar.{slot}
+use Rattle.ssim_values.specs.Calendar.{slot}
 use Rattle.ssim_periods.specs.internal.Rows.{place}
 use Rattle.ssim_periods.proofs.CountLemmas.{Reaches, reaches}
 use Rattle.ssim_periods.proofs.DayLemmas.{index-each_day, length-each_day}
