@@ -16,8 +16,8 @@ use Rattle.ssim_program.specs.World.{world}
 use Rattle.ssim_program.specs.internal.Export.{IsWritten, PrintsExport}
 use Rattle.ssim_program.specs.print.Paper.{Paper, writer_of}
 use Rattle.ssim_program.specs.internal.Print.{Prints}
-use Rattle.ssim_program.specs.print.Refusal.{refusal_of_export}
 use Rattle.ssim_program.specs.declared.refusal.Refusal.{Refusal}
+use Rattle.ssim_program.specs.declared.refusal.Refusal.TheVariants as refused
 use Rattle.ssim_program.proofs.Acting.{refuses}
 use Rattle.ssim_program.proofs.Again.{grows_by_itself}
 use Rattle.ssim_program.proofs.Printers.{breaks_after, flushed_after}
@@ -46,16 +46,20 @@ module _ (base : List Record) (days : FlightNumber → Days) (before mid : Paper
       (own.0, own.1, subst (λ (bs : List ℕ). Appends before.taken after.taken bs) (append-nil own.0) longer)
   itself after (Err why) w h = tt
 
-  -- the export was not written
-  pub not_written : (airline : List ℕ) (fault : ExportFault) → airline ≡ airline_of base → RefusesBase writer_of base days before mid fault
-      → PrintsExport base days before mid (Err (refusal_of_export airline fault))
-  not_written airline (Variations flight) is h files n =
-      refuses (prints (export_in base days)) (world files n before) (world files n mid) (refusal_of_export airline (Variations flight))
-      (Variations flight, (h.0, h.1, h.2.0), ap (λ a. refusal_of_export a (Variations flight)) is) (ap (world files n) h.2.1)
-  not_written airline Records is h files n =
-      refuses (prints (export_in base days)) (world files n before) (world files n mid) (refusal_of_export airline Records)
-      (Records, (h.0, h.1, h.2.0), ap (λ a. refusal_of_export a Records) is) (ap (world files n) h.2.1)
-  not_written airline Memory is h files n =
-      refuses (prints (export_in base days)) (world files n before) (world files n mid) (refusal_of_export airline Memory) (Memory, tt, refl) (ap (world files n) h.2)
-  not_written airline WriteFault is h files n =
-      (Print h.2.0 ∷ [], inl (h.2.0, (h.0, h.1, h.2.1), refl), inr (refusal_of_export airline WriteFault, (refl, h.2.2, refl, refl), refl))
+  -- the sink failed, and took a part of the export
+  pub not_written : RefusesBase writer_of base days before mid WriteFault → PrintsExport base days before mid (Err refused.WriteFault)
+  not_written h files n = (Print h.2.0 ∷ [], inl (h.2.0, (h.0, h.1, h.2.1), refl), inr (refused.WriteFault, (refl, h.2.2, refl, refl), refl))
+
+  -- there is no export
+  pub not_exported : (airline : List ℕ) (fault : ExportFault) → airline ≡ airline_of base → (fault ≡ WriteFault → ⊥) → RefusesBase writer_of base days before mid fault
+      → PrintsExport base days before mid (Err (refused.Export airline fault))
+  not_exported airline (Variations flight) is other h files n =
+      refuses (prints (export_in base days)) (world files n before) (world files n mid) (refused.Export airline (Variations flight))
+      (Variations flight, (h.0, h.1, h.2.0), ap (λ a. refused.Export a (Variations flight)) is) (ap (world files n) h.2.1)
+  not_exported airline Records is other h files n =
+      refuses (prints (export_in base days)) (world files n before) (world files n mid) (refused.Export airline Records)
+      (Records, (h.0, h.1, h.2.0), ap (λ a. refused.Export a Records) is) (ap (world files n) h.2.1)
+  not_exported airline Memory is other h files n =
+      refuses (prints (export_in base days)) (world files n before) (world files n mid) (refused.Export airline Memory)
+      (Memory, tt, ap (λ a. refused.Export a Memory) is) (ap (world files n) h.2)
+  not_exported airline WriteFault is other h files n = absurd (other refl)

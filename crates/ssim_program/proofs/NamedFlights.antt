@@ -11,6 +11,7 @@ use Rattle.ssim_values.specs.declared.fault.Fault.{Fault}
 use Rattle.ssim_values.specs.declared.fault.Fault.TheVariants as value_fault
 use Rattle.std.specs.Result.{IsErrAnd}
 use Rattle.ssim_program.specs.Messages.{SpellEach}
+use Rattle.ssim_program.specs.print.Refusal.{IsMemory}
 use Rattle.ssim_program.specs.declared.refusal.Refusal.{Refusal}
 use Rattle.ssim_program.specs.declared.refusal.Refusal.TheVariants as refused
 
@@ -40,7 +41,7 @@ no_word f xs i past = drop-map f i xs ∙ ap (map f) (drop_all i xs past)
 
 -- the fault of a word that is no designator, as a refusal
 pub refused_word : {A : Type 0} (words : List Text) (r : Result A Refusal) (fault : Fault) → IsErrAnd r (λ refusal. refusal ≡ refused.Value fault) → fault ≡ value_fault.BadDesignator → ((flights : List Designator) → SpellEach words flights → ⊥)
-    → IfErr r (λ refusal. (refusal ≡ refused.Memory) ⊎ ((refusal ≡ refused.Value value_fault.BadDesignator) × ((flights : List Designator) → SpellEach words flights → ⊥)))
+    → IfErr r (λ refusal. IsMemory refusal ⊎ ((refusal ≡ refused.Value value_fault.BadDesignator) × ((flights : List Designator) → SpellEach words flights → ⊥)))
 refused_word words (Ok x) fault from is none = tt
 refused_word words (Err refusal) fault from is none = inr (from ∙ ap (λ (f : Fault). refused.Value f) is, none)
 

@@ -1,5 +1,5 @@
 -- Why a file that was opened is refused as a desk file.
-use Rattle.std.proofs.Common.{◌≡◌, ◌∙◌, inl, inr, ℕ, List, [], Option, Some, None, refl, sym, arith}
+use Rattle.std.proofs.Common.{◌≡◌, ◌∙◌, inl, inr, ℕ, List, [], Option, Some, None, refl, sym, ap, arith}
 use Rattle.ssim_records.specs.declared.fault.RecordFault.{RecordFault}
 use Rattle.ssim_base.specs.BaseSeen.{BaseSeen}
 use Rattle.ssim_held.specs.Entries.{Entry}
@@ -11,8 +11,9 @@ use Rattle.ssim_command_line.specs.Line.{Text as Name}
 use Rattle.ssim_program.specs.Desks.{IsNoDeskFile, RefusesDeskFile}
 use Rattle.ssim_program.specs.Files.{Files, IsOpened}
 use Rattle.ssim_program.specs.Made.{file_limit}
-use Rattle.ssim_program.specs.print.Refusal.{refusal_of_desk}
+use Rattle.ssim_program.specs.print.Refusal.{refusal_number}
 use Rattle.ssim_program.specs.declared.refusal.Refusal.{Refusal}
+use Rattle.ssim_program.specs.declared.refusal.Refusal.TheVariants as refused
 
 -- no bytes are no desk file
 no_file : (base : BaseSeen) (entries : List Entry) → IsFileOf [] base entries → ⊥
@@ -24,8 +25,8 @@ no_bytes base entries is = no_file base entries is.is_file
 
 -- a file whose bytes are no desk file, or for which memory ran out
 pub refuses_bytes : (files : Option Files) (name : Name) (left : Option (List ℕ)) (e : DeskFault) (refusal : Refusal) → ((fault : RecordFault) → e ≡ Read fault → ⊥) → IsOpened files name left
-    → RefusesFile file_limit left e → refusal ≡ refusal_of_desk e → RefusesDeskFile files name refusal
-refuses_bytes files name left Memory refusal read opened none is = inl (inl is)
+    → RefusesFile file_limit left e → refusal ≡ refused.Desk e → RefusesDeskFile files name refusal
+refuses_bytes files name left Memory refusal read opened none is = inl (inl (ap refusal_number is))
 refuses_bytes None name None (File offset) refusal read opened none is = inr ([], (omega arith, tt), no_bytes, offset, is)
 refuses_bytes None name (Some bytes) (File offset) refusal read opened none is = inr (bytes, (none.0, tt), none.1, offset, is)
 refuses_bytes (Some all) name None (File offset) refusal read opened none is = let e = opened.2 in absurd cc

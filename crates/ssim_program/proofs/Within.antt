@@ -1,10 +1,11 @@
 -- What a data set in a file is read as, if the file is opened and read to its end.
 use Rattle.std.proofs.Common.{◌≡◌, ◌≤◌, ◌<◌, ◌+◌, ◌⊎◌, ℕ, List, [], length, Option, Some, None, Result, Ok, Err, IfOk, IfErr, subst, sym, ap, inl, inr, refl, arith}
-use Rattle.std.specs.Prelude.{IfSome}
+use Rattle.std.specs.Prelude.{IfSome, codes}
+use Rattle.ssim_records.specs.Device.{Reader}
 use Rattle.ssim_records.specs.declared.fault.RecordFault.TheVariants.{Short, BadType, BadColumn, ReadFault, ReaderNeverEnds}
 use Rattle.ssim_records.specs.declared.record.Record.{Record}
 use Rattle.ssim_base.specs.Base.{Outcome}
-use Rattle.ssim_base.specs.clauses.Reading.{HaveCome, FailsAs, NeverEnds, RefusesWhole}
+use Rattle.ssim_base.specs.clauses.Reading.{Came, HaveCome, FailsAs, NeverEnds, RefusesWhole}
 use Rattle.ssim_base.specs.Reading.{IsReadAs}
 use Rattle.ssim_base.specs.declared.fault.BaseFault.{BaseFault}
 use Rattle.ssim_base.specs.declared.fault.BaseFault.TheVariants as fault
@@ -13,7 +14,7 @@ use Rattle.ssim_base.specs.declared.note.Note.{Note}
 use Rattle.ssim_program.specs.Files.{Files, IsOpened, file_of}
 use Rattle.ssim_program.specs.Made.{HasFile, IsMissing, IsOfBytes, ReadsFile, RefusesLoad, file_limit}
 use Rattle.ssim_command_line.specs.Line.{Text}
-use Rattle.ssim_program.specs.print.Refusal.{IsOfFile}
+use Rattle.ssim_program.specs.print.Refusal.{IsOfFile, refusal_number}
 use Rattle.ssim_program.specs.internal.DataSet.{IsUnread}
 use Rattle.ssim_program.specs.declared.refusal.Refusal.{Refusal}
 use Rattle.ssim_program.specs.declared.refusal.Refusal.TheVariants as refused
@@ -53,18 +54,29 @@ too_long (Some all) name left left' start now n opened over came = subst (λ (o 
 -- a file that was not read to its end, or has more bytes than the limit
 pub refuses_unread : (files : Option Files) (name : Text) (left left' : Option (List ℕ)) (start now old new : ℕ) (e : BaseFault) (refusal : Refusal) → IsOpened files name left → Fails files old → Fails files new
     → FailsAs old new e → NeverEnds file_limit (HaveCome left left' start now) e → IsUnread name e (Some refusal) → RefusesLoad files name refusal
-refuses_unread files name left left' start now old new fault.Memory refusal opened before after failed over is = inl (some_is refused.Memory refusal (sym is))
+refuses_unread files name left left' start now old new fault.Memory refusal opened before after failed over is = inl (ap refusal_number (some_is refused.Memory refusal (sym is)))
 refuses_unread files name left left' start now old new (Read (Short n)) refusal opened before after failed over is = absurd cc
 refuses_unread files name left left' start now old new (Read (BadType n)) refusal opened before after failed over is = absurd cc
 refuses_unread files name left left' start now old new (Read (BadColumn n column)) refusal opened before after failed over is = absurd cc
 refuses_unread None name left left' start now old new (Read (ReadFault n)) refusal opened before after failed over is =
     let same : is.0 ≡ refusal = some_is refusal is.0 is.1 in
-    inr (subst (λ (r : Refusal). IsOfFile name r) same is.2, tt)
+    inr (subst (λ (r : Refusal). IsOfFile 91 (codes "File") name r) same is.2, tt)
 refuses_unread (Some all) name left left' start now old new (Read (ReadFault n)) refusal opened before after failed over is = absurd (omega (arith, before, after, failed))
 refuses_unread files name left left' start now old new (Read (ReaderNeverEnds n)) refusal opened before after failed over is =
     let same : is.0 ≡ refusal = some_is refusal is.0 is.1 in
-    inr (subst (λ (r : Refusal). IsOfFile name r) same is.2, too_long files name left left' start now (file_limit + 1) opened (omega arith) over)
+    inr (subst (λ (r : Refusal). IsOfFile 91 (codes "File") name r) same is.2, too_long files name left left' start now (file_limit + 1) opened (omega arith) over)
 refuses_unread files name left left' start now old new (Refused n why) refusal opened before after failed over is = absurd cc
+
+-- a file of a kind that never fails has not failed
+pub failures_of : {F : Type 0} (files : Option Files) (state : F → Reader) (file : F) → IfSome files (λ all. (other : F) → (state other).failures ≡ 0) → Fails files (state file).failures
+failures_of None state file unfailing = tt
+failures_of (Some all) state file unfailing = unfailing file
+
+-- a file that is not read, by what its reader was before and after
+pub refuses_read : (files : Option Files) (name : Text) (before after : Reader) (e : BaseFault) (refusal : Refusal) → IsOpened files name before.left → Fails files before.failures → Fails files after.failures
+    → FailsAs before.failures after.failures e → NeverEnds file_limit (Came before after) e → IsUnread name e (Some refusal) → RefusesLoad files name refusal
+refuses_read files name before after e refusal =
+    refuses_unread files name before.left after.left before.came after.came before.failures after.failures e refusal
 
 -- there is no file of this name
 pub not_opened : (files : Option Files) (name : Text) → IfSome files (λ all. IfSome (file_of all name) (λ bytes. ⊥)) → IsMissing files name

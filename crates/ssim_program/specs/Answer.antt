@@ -1,7 +1,7 @@
 -- What a step of a command gives: a value, or a refusal.
 use Rattle.std.specs.Prelude.{◌≡◌, ◌⊎◌, Option, Some, None, Result, Ok, Err}
+use Rattle.ssim_program.specs.print.Refusal.{IsMemory}
 use Rattle.ssim_program.specs.declared.refusal.Refusal.{Refusal}
-use Rattle.ssim_program.specs.declared.refusal.Refusal.TheVariants as refused
 
 -- An answer says which results are right.
 abbrev pub Answer : Type 0 → Type 1
@@ -19,12 +19,12 @@ first >>= next = Then first next
 -- exactly this value; or memory ran out
 abbrev pub Gives : {A : Type 0} → A → Answer A
 Gives value (Ok a) = a ≡ value
-Gives value (Err why) = why ≡ refused.Memory
+Gives value (Err why) = IsMemory why
 
 -- a value of which this is true; or memory ran out
 abbrev pub Finds : {A : Type 0} → (A → Type 0) → Answer A
 Finds P (Ok a) = P a
-Finds P (Err why) = why ≡ refused.Memory
+Finds P (Err why) = IsMemory why
 
 -- the value, or this refusal if there is none
 abbrev pub OrElse : {A : Type 0} → Option A → Refusal → Answer A
@@ -44,4 +44,4 @@ Require holds refusal (Err why) = (holds → ⊥) × (why ≡ refusal)
 -- this value, of which something is known; or memory ran out
 abbrev pub Known : {A : Type 0} → Type 0 → A → Answer A
 Known fact value (Ok a) = fact × (a ≡ value)
-Known fact value (Err why) = why ≡ refused.Memory
+Known fact value (Err why) = IsMemory why

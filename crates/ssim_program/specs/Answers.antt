@@ -41,7 +41,6 @@ use Rattle.ssim_program.specs.Withdrawing.{withdrawn}
 use Rattle.ssim_program.specs.rehearse.Rehearsal.{RehearsesFiles, RefusesLines}
 use Rattle.ssim_program.specs.print.Calendar.{calendar_lines}
 use Rattle.ssim_program.specs.print.Listing.{printed_list}
-use Rattle.ssim_program.specs.print.Refusal.{refusal_of_outbox}
 use Rattle.ssim_program.specs.print.Shown.{findings_lines, history_lines, shown_flight}
 use Rattle.ssim_program.specs.declared.content_kind.ContentKind.TheVariants as kind
 use Rattle.ssim_program.specs.declared.refusal.Refusal.TheVariants as refused
@@ -213,7 +212,7 @@ abbrev pub compared : CarrierFields → CarrierFields → Answer (Unit {0})
 compared mine theirs (Ok x) =
     (theirs.airline ≡ mine.airline) × (theirs.time_mode ≡ mine.time_mode)
 compared mine theirs (Err why) =
-    (fault : OutboxFault) × RefusesCarriers mine theirs fault × (why ≡ refusal_of_outbox fault)
+    (fault : OutboxFault) × RefusesCarriers mine theirs fault × (why ≡ refused.Publication fault)
 
 -- on which dates the second desk differs from the first
 abbrev pub differences : DeskSeen → DeskSeen → Answer (List ℕ)
@@ -234,7 +233,7 @@ diff files from to = do
 abbrev pub published : DeskSeen → DeskSeen → Text → Answer (List ℕ × List ℕ)
 published old new reference (Ok made) = Publishes old new reference made.0 made.1
 published old new reference (Err why) = (fault : OutboxFault)
-    × RefusesPublication old new reference fault × (why ≡ refusal_of_outbox fault)
+    × RefusesPublication old new reference fault × (why ≡ refused.Publication fault)
 
 -- the messages that lead one timetable to another
 abbrev pub publish : Option Files → Text → Text → Text → Text → Answer (List Act)

@@ -25,7 +25,6 @@ use Rattle.ssim_command_line.specs.Line.{Text}
 use Rattle.ssim_program.specs.Answer.{Answer, Gives, OneOr, OrElse, Require, ◌>>=◌}
 use Rattle.ssim_program.specs.Made.{HasFile, RefusesLoad}
 use Rattle.ssim_program.specs.print.PrintedLine.{printed_text}
-use Rattle.ssim_program.specs.print.Refusal.{refusal_of_desk}
 use Rattle.ssim_program.specs.declared.print.printed_line.PrintedLine.{PrintedLine}
 use Rattle.ssim_program.specs.declared.print.printed_line.PrintedLine.TheVariants as printed
 use Rattle.ssim_program.specs.declared.refusal.Refusal.{Refusal}
@@ -86,7 +85,7 @@ abbrev pub RefusesFileText : Option Files → Text → DeskSeen → Refusal → 
 RefusesFileText files name desk refusal =
     RefusesLoad files name refusal
     ⊎ ((text : List ℕ) × HasFile files name text × (fault : DeskFault)
-    × RefusesText (state_of desk) text fault × (refusal ≡ refusal_of_desk fault))
+    × RefusesText (state_of desk) text fault × (refusal ≡ refused.Desk fault))
 
 -- ---- two desks
 
@@ -99,7 +98,7 @@ pub record IsMergeOf (mine theirs after : DeskSeen) : Type 0 where
 abbrev pub RefusesMerge : DeskSeen → DeskSeen → Refusal → Type 0
 RefusesMerge mine theirs refusal =
     (fault : DeskFault) × RefusesDesk (state_of mine) (state_of theirs) fault
-    × (refusal ≡ refusal_of_desk fault)
+    × (refusal ≡ refused.Desk fault)
 
 -- ---- words
 

@@ -27,8 +27,7 @@ use Rattle.ssim_program.specs.Desks.{IsNoDeskFile}
 use Rattle.ssim_program.specs.Files.{Files}
 use Rattle.ssim_command_line.specs.Line.{Text}
 use Rattle.ssim_program.specs.Made.{HasFile, IsOfBytes, file_limit}
-use Rattle.ssim_program.specs.print.Refusal.{refusal_number, refusal_of_base, refusal_of_stations}
-use Rattle.ssim_program.specs.print.Refusal.{refusal_text}
+use Rattle.ssim_program.specs.print.Refusal.{refusal_number, refusal_text}
 use Rattle.ssim_program.specs.rehearse.Script.{RefusesScript, Script, SpellsScript}
 use Rattle.ssim_program.specs.declared.explain.file_kind.FileKind.{FileKind}
 use Rattle.ssim_program.specs.declared.explain.file_kind.FileKind.TheVariants as kind
@@ -87,7 +86,7 @@ kind_of bytes = kind_of_text (drop (prefix_len is_ascii_whitespace bytes) bytes)
 -- a file of this kind has the refusal that the commands which read it print
 abbrev pub IsInvalid : FileKind → List ℕ → Refusal → Type 0
 IsInvalid kind.DataSet bytes refusal =
-    (fault : BaseFault) × (refusal ≡ refusal_of_base fault) × IsOfBytes fault
+    (fault : BaseFault) × (refusal ≡ refused.DataSet fault) × IsOfBytes fault
     × IsReadAs file_limit bytes (Err fault)
 IsInvalid kind.Desk bytes refusal =
     IsNoDeskFile bytes × (offset : ℕ) × (refusal ≡ refused.Desk (desk_fault.File offset))
@@ -96,7 +95,7 @@ IsInvalid kind.Message bytes refusal =
     (fault : TextFault) × (refusal ≡ refused.Desk (desk_fault.Text fault)) × NoMessage bytes fault
     × IsRefusal bytes fault
 IsInvalid kind.Stations bytes refusal =
-    (fault : StationFault) × (refusal ≡ refusal_of_stations fault)
+    (fault : StationFault) × (refusal ≡ refused.Stations fault)
     × NamesLine (lines_left bytes) fault
 
 -- the bytes are a valid file of this kind

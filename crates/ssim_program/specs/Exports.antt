@@ -11,8 +11,8 @@ use Rattle.ssim_schedule.specs.declared.export.ExportFault.TheVariants as export
 use Rattle.ssim_values.specs.Flight.{FlightNumber}
 use Rattle.ssim_program.specs.Answer.{Answer}
 use Rattle.ssim_program.specs.Made.{IsExport}
-use Rattle.ssim_program.specs.print.Refusal.{refusal_of_export}
 use Rattle.ssim_program.specs.declared.refusal.Refusal.{Refusal}
+use Rattle.ssim_program.specs.declared.refusal.Refusal.TheVariants as refused
 
 -- a timetable of these days, over these records, has no export, for a flight or for the number of
 -- records; or memory ran out
@@ -27,7 +27,7 @@ HasNoExport base days export.Memory = ⊤
 -- the export of these days, over these records, is refused with this refusal
 abbrev pub RefusesExport : List Record → (FlightNumber → Days) → Refusal → Type 0
 RefusesExport base days refusal = (fault : ExportFault) × HasNoExport base days fault
-    × (refusal ≡ refusal_of_export (airline_of base) fault)
+    × (refusal ≡ refused.Export (airline_of base) fault)
 
 -- the canonical export of these days, over these records
 abbrev pub export_in : List Record → (FlightNumber → Days) → Answer (List ℕ)

@@ -1,5 +1,5 @@
 -- What is read of files, and what the commands make from a data set.
-use Rattle.std.specs.Prelude.{◌≡◌, ◌⊎◌, ℕ, ◌<◌, ◌≤◌, IfSome, List, ◌++◌, length, Option, Some, Ok, Err}
+use Rattle.std.specs.Prelude.{◌≡◌, ◌⊎◌, ℕ, ◌<◌, ◌≤◌, IfSome, List, ◌++◌, codes, length, Option, Some, Ok, Err}
 use Rattle.std.specs.List.{flat_map}
 use Rattle.ssim_values.specs.Flight.{FlightNumber}
 use Rattle.ssim_records.specs.declared.fault.RecordFault.TheVariants as record_fault
@@ -24,8 +24,7 @@ use Rattle.ssim_program.specs.Files.{Files, IsOpened, file_of}
 use Rattle.ssim_command_line.specs.Line.{Text}
 use Rattle.ssim_program.specs.Answer.{Answer}
 use Rattle.ssim_program.specs.print.PrintedLine.{printed_text}
-use Rattle.ssim_program.specs.print.Refusal.{IsOfFile, fault_text, refusal_of_base}
-use Rattle.ssim_program.specs.print.Refusal.{refusal_of_stations}
+use Rattle.ssim_program.specs.print.Refusal.{IsMemory, IsOfFile, fault_text}
 use Rattle.ssim_program.specs.declared.refusal.Refusal.{Refusal}
 use Rattle.ssim_program.specs.declared.refusal.Refusal.TheVariants as refused
 use Rattle.ssim_program.specs.declared.print.printed_line.PrintedLine.{PrintedLine}
@@ -111,13 +110,13 @@ IsMissing files name =
 -- why a file is not loaded: memory ran out, or there is no such file within the limit
 abbrev pub RefusesLoad : Option Files → Text → Refusal → Type 0
 RefusesLoad files name refusal =
-    (refusal ≡ refused.Memory) ⊎ (IsOfFile name refusal × IsMissing files name)
+    IsMemory refusal ⊎ (IsOfFile 91 (codes "File") name refusal × IsMissing files name)
 
 -- why no data set is read from a file: the file is not loaded, or the data set is refused
 abbrev pub RefusesFile : Option Files → Text → Refusal → Type 0
 RefusesFile files name refusal =
     RefusesLoad files name refusal
-    ⊎ ((fault : BaseFault) × (refusal ≡ refusal_of_base fault) × IsOfBytes fault
+    ⊎ ((fault : BaseFault) × (refusal ≡ refused.DataSet fault) × IsOfBytes fault
     × ReadsFile files name (Err fault))
 
 -- the file of this name is a station table of these rows
@@ -137,10 +136,10 @@ RefusesBase files dataset stations refusal =
     ⊎ (((bytes : List ℕ) × HasFile files dataset bytes) × RefusesLoad files stations refusal)
     ⊎ (((bytes : List ℕ) × HasFile files dataset bytes) × (table : List ℕ)
     × HasFile files stations table
-    × (fault : StationFault) × (refusal ≡ refusal_of_stations fault)
+    × (fault : StationFault) × (refusal ≡ refused.Stations fault)
     × NamesLine (lines_left table) fault)
     ⊎ (((rows : List Row) × ReadsTable files stations rows)
-    × (fault : BaseFault) × (refusal ≡ refusal_of_base fault) × IsOfBytes fault
+    × (fault : BaseFault) × (refusal ≡ refused.DataSet fault) × IsOfBytes fault
     × ReadsFile files dataset (Err fault))
 
 -- ---- answers

@@ -6,9 +6,8 @@ use Rattle.std.specs.List.{starts_with}
 use Rattle.ssim_command_line.specs.Line.{Text}
 use Rattle.ssim_program.specs.Answer.{Answer}
 use Rattle.ssim_program.specs.Files.{Files, file_of}
-use Rattle.ssim_program.specs.print.Refusal.{IsOfFile, SaysBusy, SaysOccupied}
+use Rattle.ssim_program.specs.print.Refusal.{IsMemory, IsOfFile}
 use Rattle.ssim_program.specs.declared.refusal.Refusal.{Refusal}
-use Rattle.ssim_program.specs.declared.refusal.Refusal.TheVariants as refused
 use Rattle.ssim_program.specs.declared.content_kind.ContentKind.{ContentKind}
 use Rattle.ssim_program.specs.declared.content_kind.ContentKind.TheVariants as kind
 use Rattle.ssim_program.specs.declared.store.HoldFault.{HoldFault}
@@ -56,19 +55,19 @@ HoldsFile files name kept (Err fault.Busy) = files ≡ None
 -- see, another command holds the file (92), or it cannot be read (91).
 abbrev pub RefusesHold : Option Files → Text → ContentKind → Refusal → Type 0
 RefusesHold files name kept refusal =
-    (refusal ≡ refused.Memory)
-    ⊎ (SaysOccupied name refusal × IsOccupied files name kept)
-    ⊎ (SaysBusy name refusal × (files ≡ None))
-    ⊎ (IsOfFile name refusal × (files ≡ None))
+    IsMemory refusal
+    ⊎ (IsOfFile 93 (codes "Occupied") name refusal × IsOccupied files name kept)
+    ⊎ (IsOfFile 92 (codes "Busy") name refusal × (files ≡ None))
+    ⊎ (IsOfFile 91 (codes "File") name refusal × (files ≡ None))
 
 -- Why a file is not kept, by the count of the store's failures: memory ran out; or the store
 -- counted one failure more, and the refusal is 91 with the name; or the file changed after it was
 -- held, and the refusal is 92 with the name.
 abbrev pub RefusesKeep : ℕ → ℕ → Text → Refusal → Type 0
 RefusesKeep old new name refusal =
-    ((refusal ≡ refused.Memory) × (new ≡ old))
-    ⊎ (IsOfFile name refusal × (new ≡ (old + 1) % 2 ^ 64))
-    ⊎ (SaysBusy name refusal × (new ≡ old))
+    (IsMemory refusal × (new ≡ old))
+    ⊎ (IsOfFile 91 (codes "File") name refusal × (new ≡ (old + 1) % 2 ^ 64))
+    ⊎ (IsOfFile 92 (codes "Busy") name refusal × (new ≡ old))
 
 -- the place of a file that is kept, which replaces none of another kind
 abbrev pub place_in : Option Files → List ℕ → ContentKind → Answer (Unit {0})

@@ -29,10 +29,11 @@ use Rattle.ssim_program.specs.Made.{HasFile, IsMissing, file_limit}
 use Rattle.ssim_program.specs.Places.{MayReplace, RefusesHold}
 use Rattle.ssim_program.specs.print.Names.{printed_name}
 use Rattle.ssim_program.specs.print.PrintedLine.{printed_text}
-use Rattle.ssim_program.specs.print.Refusal.{SaysOccupied, place_text, refusal_head}
-use Rattle.ssim_program.specs.print.Refusal.{refusal_of_desk, refusal_place}
+use Rattle.ssim_program.specs.print.Refusal.{IsOfFile, place_text, refusal_head}
+use Rattle.ssim_program.specs.print.Refusal.{refusal_place}
 use Rattle.ssim_program.specs.declared.content_kind.ContentKind.TheVariants as kind
 use Rattle.ssim_program.specs.declared.refusal.Refusal.{Refusal}
+use Rattle.ssim_program.specs.declared.refusal.Refusal.TheVariants as refused
 
 -- ---- what becomes of texts
 
@@ -115,8 +116,8 @@ place_in_file first place = place
 -- the refusal of a text that begins on this line of its file
 abbrev pub refused_at : ℕ → DeskFault → List ℕ
 refused_at first fault =
-    refusal_head (refusal_of_desk fault)
-    ++ place_text (place_in_file first (refusal_place (refusal_of_desk fault)))
+    refusal_head (refused.Desk fault)
+    ++ place_text (place_in_file first (refusal_place (refused.Desk fault)))
 
 -- the line of a text, or of a file that cannot be read, without its end
 abbrev pub receipt_text : Receipt → List ℕ
@@ -183,7 +184,7 @@ MayReceive files (Some refused) file out names =
 -- refusal is 93 with its name; or it is none, and the store does not hold it.
 abbrev pub RefusesRefused : Option Files → Text → List Text → Refusal → Type 0
 RefusesRefused files refused names refusal =
-    (SaysOccupied refused refusal × IsAmong files refused names)
+    (IsOfFile 93 (codes "Occupied") refused refusal × IsAmong files refused names)
     ⊎ (IsApart files refused names × RefusesHold files refused kind.RefusedTexts refusal)
 
 -- why the files that `receive` keeps are not held: first the desk's, then that of refused texts

@@ -6,6 +6,7 @@ use Rattle.ssim_program.specs.Again.{PrintsItself}
 use Rattle.ssim_program.specs.Answers.{answers}
 use Rattle.ssim_program.specs.World.{Does, PrintsRefusal, World}
 use Rattle.ssim_program.specs.print.Paper.{Breaks, Grows, Paper, PrintsOrFails}
+use Rattle.ssim_program.specs.print.Refusal.{IsMemory}
 use Rattle.ssim_program.specs.declared.refusal.Refusal.{Refusal}
 use Rattle.ssim_program.specs.declared.refusal.Refusal.TheVariants as refused
 
@@ -32,7 +33,7 @@ PrintsHelp out out' err err' =
 abbrev pub RefusesHelp : Paper → Paper → Paper → Paper → Type 0
 RefusesHelp out out' err err' =
     (refusal : Refusal)
-    × (((refusal ≡ refused.Memory) × Grows [] out out')
+    × ((IsMemory refusal × Grows [] out out')
     ⊎ ((refusal ≡ refused.WriteFault) × (text : List ℕ) × Breaks text out out'))
     × PrintsRefusal refusal err err'
 

@@ -9,6 +9,7 @@ use Rattle.ssim_held.specs.Held.{HeldMessages}
 use Rattle.ssim_command_line.specs.Line.{Text}
 use Rattle.ssim_program.specs.Answer.{Answer}
 use Rattle.ssim_program.specs.print.PrintedLine.{printed_text}
+use Rattle.ssim_program.specs.print.Refusal.{IsMemory}
 use Rattle.ssim_program.specs.declared.print.printed_line.PrintedLine.{PrintedLine}
 use Rattle.ssim_program.specs.declared.print.printed_line.PrintedLine.TheVariants as printed
 use Rattle.ssim_program.specs.declared.refusal.Refusal.{Refusal}
@@ -46,7 +47,7 @@ HasNoReference words = (n : ℕ) × (word : Text) × (slice_get words n ≡ Some
 -- why no messages are withdrawn: memory ran out; or one of the words spells no reference (21)
 abbrev pub RefusesReferences : List Text → Refusal → Type 0
 RefusesReferences words refusal =
-    (refusal ≡ refused.Memory) ⊎ ((refusal ≡ refused.Reference) × HasNoReference words)
+    IsMemory refusal ⊎ ((refusal ≡ refused.Reference) × HasNoReference words)
 
 -- the messages of these references are withdrawn: the desk afterwards, and the lines
 abbrev pub withdrawn : List Text → DeskSeen → Answer (DeskSeen × List ℕ)

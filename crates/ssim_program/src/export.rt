@@ -58,6 +58,9 @@ fn end_export<W: Write>(
 {
     match written {
         Ok(()) => out.flush(),
-        Err(fault) => Err(Refusal::of_export(airline, fault)),
+        Err(fault) => match fault {
+            ExportFault::WriteFault => Err(Refusal::WriteFault),
+            _ => Err(Refusal::Export { airline, fault }),
+        },
     }
 }

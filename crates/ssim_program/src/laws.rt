@@ -10,6 +10,7 @@ ghost use Rattle.ssim_program.specs.Offices.{OfficesAgree, PrintsTheSame};
 ghost use Rattle.ssim_program.specs.FirstProblem.{RefusalIsFirstProblem};
 ghost use Rattle.ssim_program.specs.Turns.{HoldsWhatCameInTurn, NothingHeldIsLost};
 ghost use Rattle.ssim_program.specs.Turns.{NothingTakenIsLost, TakesTurns};
+ghost use Rattle.ssim_program.specs.print.Refusal.{MemoryHasOneLine};
 ghost use Rattle.ssim_program.specs.rehearse.Verdict.{EndsWithSame};
 // The worked examples, which are computed: a false one is an error in this file.
 ghost use Rattle.ssim_program.specs.examples.Histories;
@@ -105,6 +106,11 @@ pub fn refusal_is_first_problem()
 {
     frames_are_one();
 }
+
+/// A refusal with the number 90 has the line `refused 90 Memory`, whichever fault it wraps.
+pub fn memory_has_one_line()
+    ensures { MemoryHasOneLine }
+{}
 
 /// Each call of the program on the words of a command is one event of a history of desk files: the
 /// command has done some of its acts, from the first on, and no file changes but those that it kept.

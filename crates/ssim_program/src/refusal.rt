@@ -1,14 +1,8 @@
 //! Why a command was refused, as it is printed.
-ghost use Rattle.std.specs.Prelude.{◌≡◌, IfOk, option_map};
+ghost use Rattle.std.specs.Prelude.{◌≡◌, IfOk, codes, option_map};
 ghost use Rattle.ssim_base.specs.Export.{line};
-ghost use Rattle.ssim_program.specs.print.Refusal.{IsOfFile, SaysBusy, SaysOccupied};
-ghost use Rattle.ssim_program.specs.print.Refusal.{refusal_file, refusal_name};
-ghost use Rattle.ssim_program.specs.print.Refusal.{refusal_number};
-ghost use Rattle.ssim_program.specs.print.Refusal.{refusal_of_base, refusal_of_desk};
-ghost use Rattle.ssim_program.specs.print.Refusal.{refusal_of_export, refusal_of_outbox};
-ghost use Rattle.ssim_program.specs.print.Refusal.{refusal_of_stations};
-ghost use Rattle.ssim_program.specs.clauses.print.Refusal.{refusal_of_value};
-ghost use Rattle.ssim_program.specs.print.Refusal.{refusal_place, refusal_text};
+ghost use Rattle.ssim_program.specs.print.Refusal.{IsOfFile, refusal_file, refusal_name};
+ghost use Rattle.ssim_program.specs.print.Refusal.{refusal_number, refusal_place, refusal_text};
 
 use crate::print::name::printed_name;
 use crate::print::printed_line::line_of;
@@ -22,7 +16,8 @@ use std::alloc::{AllocError, AllocFailed, Global};
 use thiserror::Error;
 
 /// Why a command was refused: a fault of one of the crates below, or one of the program's own. Its
-/// line on standard error is a [`RefusalLine`](crate::RefusalLine).
+/// line on standard error is a [`RefusalLine`](crate::RefusalLine). A fault that says that memory ran
+/// out is wrapped as any other: its number is 90, and its line is that of [`Refusal::Memory`].
 #[derive(Debug, Drop, Error)]
 pub enum Refusal {
     /// 1 to 7: a word of the command line is no value of the kind.
@@ -168,7 +163,7 @@ impl Refusal {
 impl Refusal {
     /// 91 with the name of the file, or 90 if there is no memory for the name.
     pub(crate) fn of_file(alloc: Global, name: &str) -> Refusal
-        ensures { IsOfFile name.now result }
+        ensures { IsOfFile 91 (codes "File") name.now result }
     {
         match printed_name(alloc, name) {
             Ok(name) => Refusal::File { name },
@@ -178,7 +173,7 @@ impl Refusal {
 
     /// 92 with the name of the file, or 90 if there is no memory for the name.
     pub(crate) fn busy(alloc: Global, name: &str) -> Refusal
-        ensures { SaysBusy name.now result }
+        ensures { IsOfFile 92 (codes "Busy") name.now result }
     {
         match printed_name(alloc, name) {
             Ok(name) => Refusal::Busy { name },
@@ -188,28 +183,19 @@ impl Refusal {
 
     /// 93 with the name of the file, or 90 if there is no memory for the name.
     pub(crate) fn occupied(alloc: Global, name: &str) -> Refusal
-        ensures { SaysOccupied name.now result }
+        ensures { IsOfFile 93 (codes "Occupied") name.now result }
     {
         match printed_name(alloc, name) {
             Ok(name) => Refusal::Occupied { name },
             Err(_) => Refusal::Memory,
         }
     }
-
-    /// The refusal of an export of this airline's flights.
-    pub(crate) fn of_export(airline: Airline, fault: ExportFault) -> Refusal
-        ensures { result ≡ refusal_of_export airline fault }
-    {
-        match fault {
-            ExportFault::WriteFault => Refusal::WriteFault,
-            ExportFault::Memory => Refusal::Memory,
-            _ => Refusal::Export { airline, fault },
-        }
-    }
 }
 
 impl From<Fault> for Refusal {
-    ghost from_gives = { λ fault refusal. refusal ≡ refusal_of_value fault };
+    ghost use Rattle.ssim_program.specs.declared.refusal.Refusal.TheVariants.{Value};
+
+    ghost from_gives = { λ fault refusal. refusal ≡ Value fault };
 
     fn from(fault: Fault) -> Self {
         Refusal::Value(fault)
@@ -217,46 +203,42 @@ impl From<Fault> for Refusal {
 }
 
 impl From<BaseFault> for Refusal {
-    ghost from_gives = { λ fault refusal. refusal ≡ refusal_of_base fault };
+    ghost use Rattle.ssim_program.specs.declared.refusal.Refusal.TheVariants.{DataSet};
+
+    ghost from_gives = { λ fault refusal. refusal ≡ DataSet fault };
 
     fn from(fault: BaseFault) -> Self {
-        match fault {
-            BaseFault::Memory => Refusal::Memory,
-            _ => Refusal::DataSet(fault),
-        }
+        Refusal::DataSet(fault)
     }
 }
 
 impl From<StationFault> for Refusal {
-    ghost from_gives = { λ fault refusal. refusal ≡ refusal_of_stations fault };
+    ghost use Rattle.ssim_program.specs.declared.refusal.Refusal.TheVariants.{Stations};
+
+    ghost from_gives = { λ fault refusal. refusal ≡ Stations fault };
 
     fn from(fault: StationFault) -> Self {
-        match fault {
-            StationFault::Memory => Refusal::Memory,
-            StationFault::Stations(_) => Refusal::Stations(fault),
-        }
+        Refusal::Stations(fault)
     }
 }
 
 impl From<DeskFault> for Refusal {
-    ghost from_gives = { λ fault refusal. refusal ≡ refusal_of_desk fault };
+    ghost use Rattle.ssim_program.specs.declared.refusal.Refusal.TheVariants.{Desk};
+
+    ghost from_gives = { λ fault refusal. refusal ≡ Desk fault };
 
     fn from(fault: DeskFault) -> Self {
-        match fault {
-            DeskFault::Memory => Refusal::Memory,
-            _ => Refusal::Desk(fault),
-        }
+        Refusal::Desk(fault)
     }
 }
 
 impl From<OutboxFault> for Refusal {
-    ghost from_gives = { λ fault refusal. refusal ≡ refusal_of_outbox fault };
+    ghost use Rattle.ssim_program.specs.declared.refusal.Refusal.TheVariants.{Publication};
+
+    ghost from_gives = { λ fault refusal. refusal ≡ Publication fault };
 
     fn from(fault: OutboxFault) -> Self {
-        match fault {
-            OutboxFault::Memory => Refusal::Memory,
-            _ => Refusal::Publication(fault),
-        }
+        Refusal::Publication(fault)
     }
 }
 

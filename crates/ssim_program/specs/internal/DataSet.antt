@@ -1,5 +1,5 @@
 -- The summary of a data set, and errors of a data set that are not of its bytes.
-use Rattle.std.specs.Prelude.{◌≡◌, ℕ, List, Option, Some, None}
+use Rattle.std.specs.Prelude.{◌≡◌, ℕ, List, Option, Some, None, codes}
 use Rattle.ssim_records.specs.declared.fault.RecordFault.TheVariants as record_fault
 use Rattle.ssim_base.specs.clauses.Summary.{IsSummary}
 use Rattle.ssim_base.specs.declared.fault.BaseFault.{BaseFault}
@@ -19,7 +19,8 @@ SumsFile files name summary =
 
 -- a refusal with the name of a file
 abbrev pub NamesFile : Text → Option Refusal → Type 0
-NamesFile name found = (refusal : Refusal) × (found ≡ Some refusal) × IsOfFile name refusal
+NamesFile name found =
+    (refusal : Refusal) × (found ≡ Some refusal) × IsOfFile 91 (codes "File") name refusal
 
 -- the refusal of a file that was not read to its end (13), or has more bytes than the limit (14),
 -- or for which memory ran out; none if the fault is of the bytes

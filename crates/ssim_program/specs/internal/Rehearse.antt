@@ -1,5 +1,6 @@
 -- Scripts as they are read, and the results of their steps and desks.
 use Rattle.std.specs.Prelude.{◌≡◌, ◌⊎◌, ℕ, ◌<◌, List, map, Option, Some, None, Ok, Err}
+use Rattle.ssim_program.specs.print.Refusal.{IsMemory}
 use Rattle.ssim_program.specs.declared.refusal.Refusal.{Refusal}
 use Rattle.ssim_program.specs.declared.refusal.Refusal.TheVariants as refused
 use Rattle.ssim_schedule.specs.declared.export.ExportFault.{ExportFault}
@@ -13,7 +14,7 @@ use Rattle.ssim_program.specs.rehearse.Rehearsal.{Outcome}
 
 -- the refusal names the first line that spells no step, or memory ran out
 abbrev pub IsOtherLine : ℕ → List (ℕ × List ℕ) → Refusal → Type 0
-IsOtherLine count lines refusal = (refusal ≡ refused.Memory)
+IsOtherLine count lines refusal = IsMemory refusal
     ⊎ ((number : ℕ) × (refusal ≡ refused.Script number) × IsFirstOther count lines number)
 
 -- the desks of a step are below this number

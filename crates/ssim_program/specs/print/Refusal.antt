@@ -1,4 +1,4 @@
--- The line that a refusal prints, without its line end, and which refusal a fault becomes.
+-- The line that a refusal prints, without its line end.
 use Rattle.std.specs.Prelude.{◌≡◌, ◌⊎◌, ℕ, List, [], ◌∷◌, ◌++◌, Option, Some, None, codes, string_bytes}
 use Rattle.std.specs.Fmt.{decimal}
 use Rattle.ssim_values.specs.Designator.{designator_text}
@@ -7,24 +7,15 @@ use Rattle.ssim_base.specs.Base.{base_fault_number}
 use Rattle.ssim_base.specs.Fault.{base_fault_name, base_fault_place, station_fault_name, station_fault_place}
 use Rattle.ssim_schedule.specs.ExportResult.{export_fault_name, export_fault_number, export_fault_place}
 use Rattle.ssim_base.specs.Stations.{station_fault_number}
-use Rattle.ssim_schedule.specs.declared.export.ExportFault.{ExportFault}
 use Rattle.ssim_schedule.specs.declared.export.ExportFault.TheVariants as export
-use Rattle.ssim_base.specs.declared.fault.BaseFault.{BaseFault}
-use Rattle.ssim_base.specs.declared.fault.BaseFault.TheVariants as base
 use Rattle.ssim_base.specs.declared.place.Place.{Place}
 use Rattle.ssim_base.specs.declared.place.Place.TheVariants.{Nowhere, Record, Column, Line, SubMessage}
 use Rattle.ssim_base.specs.declared.place.Place.TheVariants.{Offset, Flight, Message}
-use Rattle.ssim_base.specs.declared.stations.StationFault.{StationFault}
-use Rattle.ssim_base.specs.declared.stations.StationFault.TheVariants as stations
 use Rattle.ssim_text.specs.Fault as text
 use Rattle.ssim_text.specs.Reference.{printed_reference}
 use Rattle.ssim_text.specs.declared.fault.Fault.TheVariants as text_fault
 use Rattle.ssim_held.specs.Fault.{desk_fault_name, desk_fault_number, desk_fault_place}
-use Rattle.ssim_held.specs.declared.fault.DeskFault.{DeskFault}
-use Rattle.ssim_held.specs.declared.fault.DeskFault.TheVariants as desk
 use Rattle.ssim_outbox.specs.Fault.{outbox_fault_name, outbox_fault_number, outbox_fault_place}
-use Rattle.ssim_outbox.specs.declared.fault.OutboxFault.{OutboxFault}
-use Rattle.ssim_outbox.specs.declared.fault.OutboxFault.TheVariants as outbox
 use Rattle.ssim_program.specs.print.Names.{printed_name}
 use Rattle.ssim_program.specs.declared.refusal.Refusal.{Refusal}
 use Rattle.ssim_program.specs.declared.refusal.Refusal.TheVariants as refusal
@@ -113,58 +104,15 @@ refusal_head r = codes "refused " ++ decimal (refusal_number r) ++ 32 ∷ refusa
 abbrev pub refusal_text : Refusal → List ℕ
 refusal_text r = refusal_head r ++ named_text (refusal_file r) (refusal_place r)
 
--- ---- the refusal of a fault; each fault out of memory is refused as 90
+-- memory ran out, in this crate or in one below
+abbrev pub IsMemory : Refusal → Type 0
+IsMemory r = refusal_number r ≡ 90
 
--- the refusal for a fault of a data set
-abbrev pub refusal_of_base : BaseFault → Refusal
-refusal_of_base base.Memory = refusal.Memory
-refusal_of_base (base.Read fault) = refusal.DataSet (base.Read fault)
-refusal_of_base (base.Refused number why) = refusal.DataSet (base.Refused number why)
+-- Wherever memory ran out, the line is the same.
+abbrev pub MemoryHasOneLine : Type 0
+MemoryHasOneLine = (r : Refusal) → IsMemory r → refusal_text r ≡ codes "refused 90 Memory"
 
--- the refusal for a fault of a station table
-abbrev pub refusal_of_stations : StationFault → Refusal
-refusal_of_stations stations.Memory = refusal.Memory
-refusal_of_stations (stations.Stations line) = refusal.Stations (stations.Stations line)
-
--- the refusal for a fault of a desk
-abbrev pub refusal_of_desk : DeskFault → Refusal
-refusal_of_desk desk.Memory = refusal.Memory
-refusal_of_desk (desk.Text fault) = refusal.Desk (desk.Text fault)
-refusal_of_desk (desk.Resolve fault) = refusal.Desk (desk.Resolve fault)
-refusal_of_desk (desk.Conflict reference) = refusal.Desk (desk.Conflict reference)
-refusal_of_desk desk.OtherBase = refusal.Desk desk.OtherBase
-refusal_of_desk (desk.Read fault) = refusal.Desk (desk.Read fault)
-refusal_of_desk (desk.File offset) = refusal.Desk (desk.File offset)
-
--- the refusal for a fault of the messages that lead one timetable to another
-abbrev pub refusal_of_outbox : OutboxFault → Refusal
-refusal_of_outbox outbox.Memory = refusal.Memory
-refusal_of_outbox outbox.OtherAirline = refusal.Publication outbox.OtherAirline
-refusal_of_outbox outbox.OtherMode = refusal.Publication outbox.OtherMode
-refusal_of_outbox outbox.Reference = refusal.Publication outbox.Reference
-refusal_of_outbox outbox.Date = refusal.Publication outbox.Date
-refusal_of_outbox (outbox.Order reference) = refusal.Publication (outbox.Order reference)
-refusal_of_outbox outbox.References = refusal.Publication outbox.References
-
--- the refusal for a fault of an export; a flight is named by its designator
-abbrev pub refusal_of_export : List ℕ → ExportFault → Refusal
-refusal_of_export airline (export.Variations flight) =
-    refusal.Export airline (export.Variations flight)
-refusal_of_export airline export.Records = refusal.Export airline export.Records
-refusal_of_export airline export.WriteFault = refusal.WriteFault
-refusal_of_export airline export.Memory = refusal.Memory
-
--- the refusal is 91 with this name as it is printed, or memory ran out
-abbrev pub IsOfFile : List ℕ → Refusal → Type 0
-IsOfFile name r =
-    (r ≡ refusal.Memory) ⊎ (refusal_text r ≡ codes "refused 91 File " ++ printed_name name)
-
--- the refusal is 92 with this name as it is printed, or memory ran out
-abbrev pub SaysBusy : List ℕ → Refusal → Type 0
-SaysBusy name r =
-    (r ≡ refusal.Memory) ⊎ (refusal_text r ≡ codes "refused 92 Busy " ++ printed_name name)
-
--- the refusal is 93 with this name as it is printed, or memory ran out
-abbrev pub SaysOccupied : List ℕ → Refusal → Type 0
-SaysOccupied name r =
-    (r ≡ refusal.Memory) ⊎ (refusal_text r ≡ codes "refused 93 Occupied " ++ printed_name name)
+-- the refusal has this number and name, and the name of the file as it is printed; or memory ran out
+abbrev pub IsOfFile : ℕ → List ℕ → List ℕ → Refusal → Type 0
+IsOfFile number name file r = IsMemory r
+    ⊎ (refusal_text r ≡ codes "refused " ++ decimal number ++ 32 ∷ name ++ 32 ∷ printed_name file)

@@ -25,7 +25,7 @@ use Rattle.ssim_desk.specs.declared.steps.Step.TheVariants.{Take, Merge}
 use Rattle.ssim_program.specs.Files.{Files}
 use Rattle.ssim_command_line.specs.Line.{Text}
 use Rattle.ssim_program.specs.Made.{HasFile, ReadsBase, RefusesBase, RefusesLoad}
-use Rattle.ssim_program.specs.print.Refusal.{refusal_of_desk, refusal_of_export, refusal_text}
+use Rattle.ssim_program.specs.print.Refusal.{IsMemory, refusal_text}
 use Rattle.ssim_program.specs.rehearse.Script.{RefusesScript, Script, SpellsScript, Written, Takes, Merges}
 use Rattle.ssim_program.specs.declared.refusal.Refusal.{Refusal}
 use Rattle.ssim_program.specs.declared.refusal.Refusal.TheVariants as refused
@@ -43,12 +43,12 @@ rehearsal_text (printed.Repeated desk reference) =
     decimal desk ++ codes " repeated " ++ printed_reference reference
 rehearsal_text (printed.Merged desk) = decimal desk ++ codes " merged"
 rehearsal_text (printed.Refused desk fault) =
-    decimal desk ++ 32 ∷ refusal_text (refusal_of_desk fault)
+    decimal desk ++ 32 ∷ refusal_text (refused.Desk fault)
 rehearsal_text (printed.Exported desk messages bytes) =
     codes "desk " ++ decimal desk ++ codes " held " ++ decimal messages ++ codes " bytes "
     ++ decimal bytes
 rehearsal_text (printed.NotExported desk airline fault) =
-    codes "desk " ++ decimal desk ++ 32 ∷ refusal_text (refusal_of_export airline fault)
+    codes "desk " ++ decimal desk ++ 32 ∷ refusal_text (refused.Export airline fault)
 rehearsal_text printed.Same = codes "same"
 rehearsal_text printed.Different = codes "different"
 
@@ -208,7 +208,7 @@ RefusesStep files (Merges into from) refusal = ⊥
 -- the text of one of these steps is not loaded, or memory ran out
 abbrev pub RefusesStepTexts : Option Files → List Written → Refusal → Type 0
 RefusesStepTexts files script refusal =
-    (refusal ≡ refused.Memory)
+    IsMemory refusal
     ⊎ ((before : List Written) × (step : Written) × (after : List Written)
     × (script ≡ before ++ step ∷ after)
     × ((steps : List Step) × AreLoaded files before steps) × RefusesStep files step refusal)
@@ -223,7 +223,7 @@ RefusesSteps files name refusal =
 -- Why there are no lines: memory ran out; or no base is read; or the steps are refused.
 abbrev pub RefusesLines : Option Files → Text → Text → Text → Refusal → Type 0
 RefusesLines files dataset stations script refusal =
-    (refusal ≡ refused.Memory)
+    IsMemory refusal
     ⊎ RefusesBase files dataset stations refusal
     ⊎ (((base : BaseSeen) × (notes : List Note) × ReadsBase files dataset stations base notes)
     × RefusesSteps files script refusal)

@@ -5,6 +5,7 @@ use Rattle.std.specs.List.{list_any}
 use Rattle.std.specs.Str.{bytes_eq, is_utf8}
 use Rattle.ssim_text.specs.Bytes.{◌>>=◌, word, after_word}
 use Rattle.ssim_text.specs.Left.{lines_left}
+use Rattle.ssim_program.specs.print.Refusal.{IsMemory}
 use Rattle.ssim_program.specs.declared.refusal.Refusal.{Refusal}
 use Rattle.ssim_program.specs.declared.refusal.Refusal.TheVariants as refused
 
@@ -94,5 +95,5 @@ IsNoScriptAt text number =
 -- the bytes are no script, and the refusal names the line; or memory ran out
 abbrev pub RefusesScript : List ℕ → Refusal → Type 0
 RefusesScript text refusal =
-    (refusal ≡ refused.Memory) ⊎ ((number : ℕ) × (refusal ≡ refused.Script number)
+    IsMemory refusal ⊎ ((number : ℕ) × (refusal ≡ refused.Script number)
     × IsNoScriptAt text number)

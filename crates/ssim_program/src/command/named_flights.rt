@@ -4,6 +4,7 @@ ghost use Rattle.std.specs.Prelude.{◌≡◌, ◌⊎◌, [], ◌∷◌, All, Er
 ghost use Rattle.ssim_values.specs.declared.designator.Designator.{Designator};
 ghost use Rattle.ssim_values.specs.declared.fault.Fault.TheVariants as value_fault;
 ghost use Rattle.ssim_program.specs.Messages.{IsOf, SpellEach, flights_in};
+ghost use Rattle.ssim_program.specs.print.Refusal.{IsMemory};
 ghost use Rattle.ssim_program.specs.declared.refusal.Refusal.TheVariants as refused;
 
 use crate::refusal::Refusal;
@@ -48,7 +49,7 @@ pub(crate) fn named_flights(
 /// The designators that the words are.
 fn designators(alloc: Global, words: &[&str]) -> Result<Vec<Designator>, Refusal>
     ensures ok { IfOk result (λ flights. SpellEach (map (λ t. t.now) words.now) flights.items) }
-    ensures err { IfErr result (λ refusal. (refusal ≡ refused.Memory)
+    ensures err { IfErr result (λ refusal. IsMemory refusal
         ⊎ ((refusal ≡ refused.Value value_fault.BadDesignator)
         × ((flights : List Designator) → SpellEach (map (λ t. t.now) words.now) flights → ⊥))) }
 {

@@ -78,7 +78,10 @@ impl fmt::Display for RehearsalLine {
                 airline,
                 fault,
             } => {
-                let refusal = Refusal::of_export(*airline, *fault);
+                let refusal = Refusal::Export {
+                    airline: *airline,
+                    fault: *fault,
+                };
                 let line = RefusalLine { refusal: &refusal };
                 write!(f, "desk {desk} {line}")
             }

@@ -13,6 +13,11 @@ both : {A : Type 0} (files : Option Files) (from to : Text) (old new : DeskSeen)
 both files from to old new (Ok lines) mine theirs differ = (old, mine, (new, theirs, differ))
 both files from to old new (Err why) mine theirs differ = inr (old, mine, inr (new, theirs, differ))
 
+pub returns-in_err-old-clause-answer : goal.returns-in_err-old-clause-answer
+returns-in_err-old-clause-answer g c =
+    let is : c.from_residual.result ≡ Err c.in_err-old.field-0.0 = search rules in
+    rw is (inl c.in_err-old.ensures.refused)
+
 pub returns-in_err-desk-clause-answer : goal.returns-in_err-desk-clause-answer
 returns-in_err-desk-clause-answer g c =
     let why = c.in_err-desk.field-0.0 in let read = c.in_ok-old.ensures.read in
