@@ -185,11 +185,12 @@ def bad_times(leg):
 
 
 def reason(old, new, day, stations):
-    """The words of an unsaid date."""
+    """The words of an unsaid date. EQT and TIM are enough for legs of the same route, whatever their leg sequences are."""
+    if old and routes(old) == routes(new):
+        return " ".join(part_words(old, new))
     if [leg.sequence for leg in new] != list(range(1, len(new) + 1)) or len(new) > MOST_LEGS:
         return "sequence"
-    same_route = old and routes(old) == routes(new)
-    return " ".join(part_words(old, new) if same_route else whole_words(new, day, stations))
+    return " ".join(whole_words(new, day, stations))
 
 
 def leg_words(leg, fields, words):

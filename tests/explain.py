@@ -3,7 +3,8 @@
 
 docs/REFUSALS.md has a row for each refusal, whose name, meaning and remedy `explain` prints. No other number has a refusal. A
 file is explained for each number that a file alone may be refused by: the first line has the place, the second the meaning, the
-third what is there, and the last what to do. The last line is 'N passed, M failed'. With `page` the meanings and remedies of the
+third what is there, and the last what to do. The byte 1 in any column of any record is explained by the field that it makes invalid. The last
+line is 'N passed, M failed'. With `page` the meanings and remedies of the
 rows are written as `explain` prints them, and nothing is compared.
 """
 import os
@@ -101,6 +102,23 @@ def refused_files():
     }
 
 
+def columns_explained(program):
+    """The columns of each record that have no lines on a field, if the byte 1 is there."""
+    records = vectors()
+    h, c, leg, segment, t = (records[name] for name in ("header", "carrier", "leg", "segment", "trailer"))
+    lines = [h, c, leg, segment, t]
+    for at, line in enumerate(lines):
+        for column in range(2, 201):
+            data = b"".join([*lines[:at], over(line, column, b"\x01"), *lines[at + 1 :]])
+            text = printed(program, "-", data)
+            refused = re.match(rf"refused 12 BadColumn record {at + 1} column (\d+)\n", text)
+            field = re.search(r"^field: [^,]+(?:, [^,]+)*, columns (\d+) to (\d+)$", text, re.MULTILINE)
+            good = refused and field and refused[1] == field[1] and int(field[1]) <= column <= int(field[2])
+            yield f"record {at + 1} column {column}", bool(good and "\nallowed: " in text), text
+    text = printed(program, "-", h + c + leg + over(segment, 28, b"1") + t)
+    yield "overflow of a segment record", "\nfield: overflow of the itinerary variation, columns 28 to 28\n" in text, text
+
+
 def there(data, place):
     """The line that shows the bytes at a place; none if the file ends before it."""
     word, number = place.split()[:2]
@@ -142,6 +160,10 @@ def main():
         wanted = f"{first} {place}\n{second}\n{there(data, place)}{last}\n"
         answers.append((f"a file with {number}", wanted, ends_of(printed(program, "-", data))))
     passed = failed = 0
+    for name, good, got in columns_explained(program):
+        passed, failed = passed + good, failed + (not good)
+        if not good:
+            print(f"explain: {name}: no lines on the field, but\n{got}")
     for name, wanted, got in answers:
         if got == wanted:
             passed += 1

@@ -13,7 +13,7 @@ pub(crate) struct NamedField {
     /// What column 1 is of the records that have it.
     kinds: &'static [u8],
     first: usize,
-    pub(crate) last: usize,
+    last: usize,
     pub(crate) name: &'static str,
     pub(crate) allowed: &'static str,
 }
@@ -65,6 +65,25 @@ macro_rules! leg_field {
     };
 }
 
+impl NamedField {
+    /// Whether a record has the field, or a part of it, at a column. A carried field is refused at the
+    /// column of the byte, another one at its first column.
+    fn is_at(&self, kind: u8, column: usize) -> bool {
+        let is_inside = self.first < column && column <= self.last;
+        self.kinds.contains(&kind) && (column == self.first || self.is_carried() && is_inside)
+    }
+
+    /// The last column of what is refused at a column.
+    pub(crate) fn last_at(&self, column: usize) -> usize {
+        if self.is_carried() { column } else { self.last }
+    }
+
+    /// Whether each column is a field of its own, in which any text is carried.
+    fn is_carried(&self) -> bool {
+        self.allowed == CARRIED
+    }
+}
+
 const FIELDS: [NamedField; 39] = [
     field!(b"1" 2 35 "title" TITLE),
     field!(b"2" 2 2 "time mode" "U for UTC, L for local time"),
@@ -107,10 +126,10 @@ const FIELDS: [NamedField; 39] = [
     leg_field!(b"12345" SERIAL "serial" SIX_DIGITS),
 ];
 
-/// The field of a record that begins at this column.
+/// The field of a record that is refused at this column.
 pub(crate) fn field_at(kind: u8, column: usize) -> Option<NamedField> {
     for field in fields() {
-        if field.first == column && field.kinds.contains(&kind) {
+        if field.is_at(kind, column) {
             return Some(*field);
         }
     }

@@ -2,8 +2,9 @@
 //! place of a file.
 //!
 //! - [`explanation_of`]: the [`Explanation`] of a refusal by its number; [`words_on`]: its lines.
-//! - [`words_on_record`]: the lines on a record of a data set, and on the field that begins at a
-//!   column; [`words_on_overlap`]: on two records with a common date.
+//! - [`words_on_record`]: the lines on a record of a data set, and on the field that is refused at a
+//!   column; [`words_on_overflow`]: on the overflow of its itinerary variation;
+//!   [`words_on_overlap`]: on two records with a common date.
 //! - [`words_on_line`]: those on a line of a text, a station table or a script;
 //!   [`words_on_offset`]: on an element of a desk file.
 //!
@@ -21,4 +22,4 @@ mod texts;
 pub use explanation::{Explanation, explanation_of, words_on};
 pub use line_words::{words_on_line, words_on_offset};
 pub use overlap::words_on_overlap;
-pub use record_words::words_on_record;
+pub use record_words::{words_on_overflow, words_on_record};

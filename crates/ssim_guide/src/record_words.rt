@@ -4,8 +4,8 @@ use crate::fields::field_at;
 use crate::lines::{push_line, push_number, push_shown};
 use std::alloc::{AllocError, Global};
 
-/// The lines on the record with this number, from 1: its bytes, and of the field that begins at the
-/// column its name, its columns, what is there, and what is allowed there. There are none if the
+/// The lines on the record with this number, from 1: its bytes, and of the field that is refused at
+/// the column its name, its columns, what is there, and what is allowed there. There are none if the
 /// data set ends before the record.
 pub fn words_on_record(
     alloc: Global,
@@ -23,7 +23,17 @@ pub fn words_on_record(
     Ok(lines)
 }
 
-/// Adds the lines on the field of a record that begins at the column.
+/// The lines on the record with this number, and on the overflow of its itinerary variation: column
+/// 28 of a segment record, 128 of a leg record.
+pub fn words_on_overflow(alloc: Global, bytes: &[u8], number: u64) -> Result<Vec<u8>, AllocError> {
+    let column = match record_at(bytes, number) {
+        Some([b'4', ..]) => 28,
+        _ => 128,
+    };
+    words_on_record(alloc, bytes, number, Some(column))
+}
+
+/// Adds the lines on the field of a record that is refused at the column.
 fn push_field(lines: &mut Vec<u8>, record: &[u8], column: usize) -> Result<(), AllocError> {
     let Some(kind) = record.first() else {
         return Ok(());
@@ -31,8 +41,9 @@ fn push_field(lines: &mut Vec<u8>, record: &[u8], column: usize) -> Result<(), A
     let Some(field) = field_at(*kind, column) else {
         return Ok(());
     };
-    push_columns(lines, field.name, column, field.last)?;
-    if let Some(found) = columns_of(record, column, field.last) {
+    let last = field.last_at(column);
+    push_columns(lines, field.name, column, last)?;
+    if let Some(found) = columns_of(record, column, last) {
         push_shown(lines, "found", found)?;
     }
     push_line(lines, "allowed", field.allowed)

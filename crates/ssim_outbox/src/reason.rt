@@ -73,8 +73,9 @@ impl SaidOfDay for Reason {
     }
 }
 
-// The words of what messages cannot give to new legs on a day: `sequence` alone, or for each leg
-// with obstacles its leg sequence and these.
+// The words of what messages cannot give to new legs on a day: for each leg with obstacles its leg
+// sequence and these; or `sequence` alone, if the legs have another route and no messages make one
+// with these leg sequences.
 fn words_of(
     alloc: Global,
     rows: &[StationRow],
@@ -83,7 +84,7 @@ fn words_of(
     new: &[PlacedLeg],
 ) -> Result<Vec<u8>, Memory> {
     let mut words = Vec::new(alloc);
-    if !are_numbered(new) {
+    if !have_same_route(old, new) && !are_numbered(new) {
         add_obstacle(&mut words, Obstacle::Sequence)?;
         return Ok(words);
     }

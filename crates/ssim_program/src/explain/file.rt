@@ -13,7 +13,9 @@ use crate::refusal::Refusal;
 use crate::rehearse::script::Script;
 use ssim_base::{BaseFault, BaseRefusal, Place, StationFault, Stations};
 use ssim_desk::{DeskFault, Holdings};
-use ssim_guide::{words_on_line, words_on_offset, words_on_overlap, words_on_record};
+use ssim_guide::{
+    words_on_line, words_on_offset, words_on_overflow, words_on_overlap, words_on_record,
+};
 use ssim_text::{TextFault, decode};
 use ssim_values::Memory;
 use std::alloc::{AllocError, Global};
@@ -151,6 +153,9 @@ fn words_on_refused(
         Refusal::DataSet(BaseFault::Refused(_, BaseRefusal::Overlap)) => {
             words_on_overlap(alloc, bytes, record)
         }
+        Refusal::DataSet(BaseFault::Refused(_, BaseRefusal::Overflow)) => {
+            words_on_overflow(alloc, bytes, record)
+        }
         Refusal::DataSet(BaseFault::Refused(_, why)) => {
             words_on_record(alloc, bytes, record, column_of(*why))
         }
@@ -163,7 +168,6 @@ fn column_of(refusal: BaseRefusal) -> Option<usize> {
     match refusal {
         BaseRefusal::OtherAirline => Some(3),
         BaseRefusal::Frequency => Some(36),
-        BaseRefusal::Overflow => Some(128),
         BaseRefusal::Continuation => Some(194),
         _ => None,
     }
