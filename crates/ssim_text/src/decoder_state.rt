@@ -91,7 +91,7 @@ impl BoxedBody {
             designator,
             dates,
             change,
-            legs: Legs::new(alloc),
+            legs: Legs::new(alloc)?,
             segments: Segments::new(alloc),
         };
         Ok(BoxedBody {
@@ -132,13 +132,13 @@ impl BoxedBody {
         }
     }
 
-    fn with_leg(self, leg: LegLine) -> Result<BoxedBody, AllocError>
+    fn with_leg(self, leg: LegLine) -> BoxedBody
         requires { length self.legs < 20 }
-        ensures { IfOk result (λ b. b ≡ with_leg self leg) }
+        ensures { result ≡ with_leg self leg }
     {
         let mut longer = self;
-        longer.body.legs.push(leg)?;
-        Ok(longer)
+        longer.body.legs.push(leg);
+        longer
     }
 
     fn with_segment(self, segment: SegmentLine) -> Result<BoxedBody, AllocError>
@@ -460,8 +460,7 @@ impl State {
                 if body.leg_count() >= 20 {
                     return Err(Stop::Refused(Fault::TooMany));
                 }
-                let longer = body.with_leg(leg)?;
-                Ok(State::AtLegs(message, longer))
+                Ok(State::AtLegs(message, body.with_leg(leg)))
             }
             None => State::after_legs(alloc, message, body, line),
         }

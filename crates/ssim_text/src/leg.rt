@@ -1,6 +1,6 @@
 //! Leg lines.
-ghost use Rattle.std.specs.Prelude.{◌≡◌, ◌<◌, ◌≤◌, ◌++◌, ◌∷◌, [], length, position, IfSome, IfNone};
-ghost use Rattle.std.specs.Prelude.{OnOk};
+ghost use Rattle.std.specs.Prelude.{◌≡◌, ◌<◌, ◌≤◌, ◌++◌, ◌∷◌, [], length, position, codes, IfSome, IfNone};
+ghost use Rattle.std.specs.Prelude.{IfOk};
 ghost use Rattle.std.specs.Str.{bytes_eq};
 ghost use Rattle.ssim_text.specs.Grammar.{leg_pair, flies};
 ghost use Rattle.ssim_text.specs.Lines.{station_in, clock_in, variation_of, passenger_of};
@@ -8,6 +8,7 @@ ghost use Rattle.ssim_text.specs.Lines.{variations_of, end_of, leg_of};
 
 use crate::bytes::{first_bytes, first_word};
 use crate::segment::SegmentLine;
+use arrayvec::ArrayVec;
 use ssim_values::{Clock, Station};
 use std::alloc::{AllocError, Global};
 use std::marker::Model;
@@ -24,8 +25,29 @@ pub struct LegEnd {
     pub passenger: Clock,
 }
 
+/// Midnight at `AAA`. An `ArrayVec` has a default leg line in each place that it does not use.
+impl Default for LegEnd {
+    ghost is_default = { λ e. (e.station ≡ codes "AAA") × (e.time ≡ 0) × (e.variation ≡ 0)
+        × (e.passenger ≡ 0) };
+
+    fn default() -> LegEnd {
+        LegEnd {
+            station: Station::parse(b"AAA").unwrap(),
+            time: midnight(),
+            variation: 0,
+            passenger: midnight(),
+        }
+    }
+}
+
+fn midnight() -> Clock
+    ensures { result ≡ 0 }
+{
+    Clock::parse(b"0000").unwrap()
+}
+
 /// The departure and the arrival of a flight leg.
-#[derive(Clone, Copy, Debug, PartialEq, Eq)]
+#[derive(Clone, Copy, Debug, Default, PartialEq, Eq)]
 pub struct LegLine {
     pub departure: LegEnd,
     pub arrival: LegEnd,
@@ -120,30 +142,29 @@ fn variations(time: Clock, text: &[u8]) -> Option<(u8, Clock)>
     Some((variation(first)?, passenger(second)?))
 }
 
-/// One to twenty leg lines.
+/// One to twenty leg lines. They are on the heap, so that an action without legs keeps no room for
+/// twenty.
 #[derive(Clone, Debug, Drop)]
 pub struct Legs {
-    lines: Vec<LegLine>,
+    lines: Box<ArrayVec<LegLine, 20>>,
 }
 
 impl Model for Legs {
-    ghost use Rattle.std.specs.Prelude.{List, length, ◌≤◌};
+    ghost use Rattle.std.specs.Prelude.{List};
     ghost use Rattle.ssim_text.specs.declared.leg.LegLine.{LegLine};
 
     ghost Value = { List LegLine };
 
-    ghost view = { λ l. l.lines.items };
-
-    ghost invariant = { λ l. length l.lines.items ≤ 20 };
+    ghost view = { λ l. l.lines.value.items };
 }
 
 impl Legs {
-    pub(crate) fn new(alloc: Global) -> Legs
-        ensures { result ≡ [] }
+    pub(crate) fn new(alloc: Global) -> Result<Legs, AllocError>
+        ensures { IfOk result (λ legs. legs ≡ []) }
     {
-        Legs {
-            lines: Vec::new(alloc),
-        }
+        Ok(Legs {
+            lines: Box::new(alloc, ArrayVec::new())?,
+        })
     }
 
     /// The lines, in their order.
@@ -151,16 +172,15 @@ impl Legs {
         ensures value { result.now ≡ self.now }
         ensures few { length self.now ≤ 20 }
     {
-        &self.lines
+        self.lines.as_slice()
     }
 
     /// A further line.
-    pub(crate) fn push(&mut self, leg: LegLine) -> Result<(), AllocError>
+    pub(crate) fn push(&mut self, leg: LegLine)
         requires { length self.old < 20 }
-        ensures { OnOk result (self.new ≡ self.old ++ leg ∷ []) }
+        ensures { self.new ≡ self.old ++ leg ∷ [] }
     {
-        self.lines.push(leg)?;
-        Ok(())
+        self.lines.push(leg);
     }
 }
 
