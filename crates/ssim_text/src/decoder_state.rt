@@ -369,8 +369,7 @@ impl State {
         ensures err { IfErr result
             (λ stop. StopsAt (State.AtReference originator kind mode) line.now stop) }
     {
-        let read = GivenReference::parse(alloc, line)?;
-        match read {
+        match GivenReference::parse(line) {
             Some(reference) => {
                 let draft = Draft::begin(alloc, originator, kind, mode, reference)?;
                 Ok(State::AtAction(draft))

@@ -14,8 +14,8 @@ use crate::encoder::{five_digits, three_digits};
 use crate::fault::Fault;
 use crate::kind::Kind;
 use crate::originator::Originator;
+use arrayvec::ArrayVec;
 use ssim_values::{Day, DayMonth, are_digits};
-use std::alloc::{AllocError, Global};
 use std::cmp::Ordering;
 use std::fmt;
 use std::marker::Model;
@@ -124,7 +124,7 @@ pub struct GivenReference {
 /// The creator's own reference: 1 to 35 bytes from 32 to 126, the last of them no blank.
 #[derive(Clone, Debug, Drop)]
 pub struct CreatorReference {
-    bytes: Vec<u8>,
+    bytes: ArrayVec<u8, 35>,
 }
 
 impl Model for CreatorReference {
@@ -220,88 +220,41 @@ fn group_code(text: &[u8]) -> Option<GroupCode>
     }
 }
 
-fn creator(text: &[u8]) -> Option<Option<&[u8]>>
-    ensures some { IfSome result (λ c. creator_of text.now ≡ Some (option_map (λ t. t.now) c)) }
+fn creator(text: &[u8]) -> Option<Option<CreatorReference>>
+    ensures some { IfSome result (λ c. creator_of text.now ≡ Some c) }
     ensures none { IfNone result (creator_of text.now ≡ None) }
 {
     match text {
         [] => Some(None),
         [b'/', text @ ..] => {
-            if text.is_empty() || text.len() > 35 {
-                None
-            } else {
-                Some(Some(text))
+            if text.is_empty() {
+                return None;
             }
+            let bytes = ArrayVec::try_from(text).ok()?;
+            Some(Some(CreatorReference { bytes }))
         }
         _ => None,
     }
 }
 
-impl CreatorReference {
-    fn kept(alloc: Global, text: Option<&[u8]>) -> Result<Option<CreatorReference>, AllocError>
-        ensures { IfOk result (λ c. c ≡ option_map (λ t. t.now) text.entry) }
-    {
-        match text {
-            Some(text) => {
-                let bytes = Vec::from_slice(alloc, text)?;
-                Ok(Some(CreatorReference { bytes }))
-            }
-            None => Ok(None),
-        }
-    }
-}
-
-/// The parts of a reference line that allocate nothing.
-#[derive(Clone, Copy)]
-struct SerialNumbers {
-    date: DayMonth,
-    group: u32,
-    code: GroupCode,
-    serial: u16,
-}
-
-#[tactic(auto, unfolding(crate::specs::Lines::numbers_of))]
-fn serials(line: &[u8]) -> Option<SerialNumbers>
-    ensures some { IfSome result
-        (λ n. numbers_of line.now ≡ Some (n.date, n.group, n.code, n.serial)) }
-    ensures none { IfNone result (numbers_of line.now ≡ None) }
-{
-    let (date, rest) = first_bytes(line, 5);
-    let (group, rest) = first_bytes(rest, 5);
-    let (code, serial) = first_bytes(rest, 1);
-    let date = month_day(date)?;
-    let group = digits(5, 5, group)?;
-    let code = group_code(code)?;
-    let serial = digits(3, 3, serial)? as u16;
-    Some(SerialNumbers {
-        date,
-        group,
-        code,
-        serial,
-    })
-}
-
-#[tactic(auto, unfolding(crate::specs::Lines::reference_of))]
+#[tactic(auto, unfolding(crate::specs::Lines::reference_of, crate::specs::Lines::numbers_of))]
 impl GivenReference {
     /// Reads a date without its year, five digits, `C` or `E`, three digits, and perhaps a
     /// solidus and the creator's reference.
-    pub(crate) fn parse(alloc: Global, line: &[u8]) -> Result<Option<GivenReference>, AllocError>
-        ensures { IfOk result (λ read. reference_of line.now ≡ read) }
+    pub(crate) fn parse(line: &[u8]) -> Option<GivenReference>
+        ensures some { IfSome result (λ r. reference_of line.now ≡ Some r) }
+        ensures none { IfNone result (reference_of line.now ≡ None) }
     {
-        let (numbers_text, creator_text) = first_bytes(line, 14);
-        let Some(read) = serials(numbers_text) else {
-            return Ok(None);
-        };
-        let Some(creator) = creator(creator_text) else {
-            return Ok(None);
-        };
-        let creator = CreatorReference::kept(alloc, creator)?;
-        Ok(Some(GivenReference {
-            date: read.date,
-            group: read.group,
-            code: read.code,
-            serial: read.serial,
-            creator,
-        }))
+        let (numbers, creator_text) = first_bytes(line, 14);
+        let (date, rest) = first_bytes(numbers, 5);
+        let (group, rest) = first_bytes(rest, 5);
+        let (code, serial) = first_bytes(rest, 1);
+        Some(GivenReference {
+            date: month_day(date)?,
+            group: digits(5, 5, group)?,
+            code: group_code(code)?,
+            serial: digits(3, 3, serial)? as u16,
+            creator: creator(creator_text)?,
+        })
     }
 }
