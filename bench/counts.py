@@ -10,11 +10,12 @@ time (the system's names of 3,000 files).
 """
 import os
 import subprocess
-import sys
-import tempfile
 
-from desks import write_texts
-from figures import COUNTED, HERE, instructions, instructions_a_record
+from measure import arguments, instructions
+import chapter7
+import large
+from figures import COUNTED, instructions_a_record
+from texts import write_texts
 
 RECORDS, TEXTS = 40_000, 3_000
 SIZES = (20_000, 60_000)
@@ -24,19 +25,17 @@ def print_row(title, ours, other, unit=1):
     print(f"| {title} | {ours / unit:,.0f} | {other / unit:,.0f} | {ours / other:.2f} |", flush=True)
 
 
-def large(records, folder):
+def two_legs(records, folder):
     """The name of a data set of two legs a flight, and its records."""
     name = f"large-{records}.ssim"
-    command = [sys.executable, os.path.join(HERE, "large.py"), str(records), os.path.join(folder, name)]
-    subprocess.run(command, check=True, stdout=subprocess.DEVNULL)
-    return name, os.path.getsize(os.path.join(folder, name)) // 201
+    return name, chapter7.write(os.path.join(folder, name), large.records(records))
 
 
 def count_shapes(programs, folder):
     for shape in COUNTED:
         for command in ("tidy", "check"):
             print_row(f"{shape}: `{command}`, a record", *instructions_a_record(shape, command, programs, folder))
-    (less, few), (more, many) = (large(size, folder) for size in SIZES)
+    (less, few), (more, many) = (two_legs(size, folder) for size in SIZES)
     for command in ("tidy", "check"):
         counts = [(instructions(program, [command, more], folder) - instructions(program, [command, less], folder)) / (many - few)
                   for program in programs]
@@ -44,8 +43,7 @@ def count_shapes(programs, folder):
 
 
 def count_desks(programs, folder):
-    base, _ = large(RECORDS, folder)
-    open(os.path.join(folder, "none"), "w").close()
+    base, _ = two_legs(RECORDS, folder)
     texts, designator = write_texts(folder, base, TEXTS)
     ours = programs[0]
     for words in (["start", base, "none", "base.desk"], ["take", "base.desk", "texts.desk", *texts]):
@@ -56,11 +54,7 @@ def count_desks(programs, folder):
 
 
 def main():
-    if len(sys.argv) < 3:
-        sys.exit(__doc__)
-    programs = [os.path.abspath(path) for path in sys.argv[1:3]]
-    folder = os.path.abspath(sys.argv[3]) if len(sys.argv) > 3 else tempfile.mkdtemp()
-    os.makedirs(folder, exist_ok=True)
+    programs, folder, _ = arguments(__doc__, 2)
     print("| Instructions | ssimdesk | Plain Rust | Ratio |\n|---|---|---|---|")
     count_shapes(programs, folder)
     count_desks(programs, folder)

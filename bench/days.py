@@ -7,13 +7,11 @@ files; `board`, `calendar` and `history` against `show` on the desk of the data 
 reference against the same texts in rising order. Each runs five times, in turn; the best counts. GNU time reads the memory.
 """
 import os
-import sys
-import tempfile
 
-from chapter7 import date
-from desks import write_texts
-from measure import RUNS, best, in_turn, once
-from shapes import FIRST, LAST, dates, write
+from measure import RUNS, arguments, best, in_turn, once
+from chapter7 import write
+from shapes import records
+from texts import texts_for, write_mailbox
 
 TEXTS = 4_000
 
@@ -31,15 +29,11 @@ def write_files(program, folder, flights):
         return os.path.join(folder, name)
 
     if not os.path.exists(path("changed.ssim")):
-        write(path("dates.ssim"), dates(flights), date(FIRST), date(LAST))
-        write(path("changed.ssim"), changed(dates(flights)), date(FIRST), date(LAST))
-    open(path("none"), "w").close()
-    names, designator = write_texts(folder, "dates.ssim", TEXTS)
-    for mailbox, texts in (("rising", names), ("falling", names[::-1])):
-        with open(path(mailbox), "wb") as out:
-            for name in texts:
-                with open(path(name), "rb") as text:
-                    out.write(text.read() + b"NNNN\n")
+        write(path("dates.ssim"), records("dates", flights))
+        write(path("changed.ssim"), records("dates", flights, change=changed))
+    texts, designator = texts_for(path("dates.ssim"), TEXTS)
+    write_mailbox(path("rising"), texts.values())
+    write_mailbox(path("falling"), reversed(texts.values()))
     once(program, ["start", "dates.ssim", "none", "dates.desk"], folder)
     return designator
 
@@ -62,12 +56,8 @@ def rows_of(flight):
 
 
 def main():
-    if len(sys.argv) < 2:
-        sys.exit(__doc__)
-    program = os.path.abspath(sys.argv[1])
-    folder = os.path.abspath(sys.argv[2]) if len(sys.argv) > 2 else tempfile.mkdtemp()
-    os.makedirs(folder, exist_ok=True)
-    flight = write_files(program, folder, int(sys.argv[3]) if len(sys.argv) > 3 else 5_444)
+    (program,), folder, words = arguments(__doc__, 1)
+    flight = write_files(program, folder, int(words[0]) if words else 5_444)
     print("command                                  seconds  against   ratio  goal      MiB  against")
     for words, other, times, goal in rows_of(flight):
         found = in_turn([(0, [program, *words]), (0, [program, *other])], folder, RUNS)

@@ -11,30 +11,14 @@ and saving run 25 times in turn, and the mean of the five best times counts, sin
 import filecmp
 import os
 import subprocess
-import sys
-import tempfile
 
-from measure import HERE, RUNS, best, in_turn, once
+from measure import RUNS, arguments, best, in_turn, once, print_pair
+import chapter7
+import large
+from texts import write_texts
 
 # Runs of opening and saving: the difference of two times wants more of them.
 MANY = 25
-
-
-def write_texts(folder, dataset, count):
-    """Texts with rising references, one flight after another; their names."""
-    flights = []
-    with open(os.path.join(folder, dataset), "rb") as lines:
-        for line in lines:
-            if line[:1] == b"3" and (not flights or flights[-1] != line[2:9]):
-                flights.append(line[2:9])
-    names = []
-    for number in range(count):
-        flight = flights[number % len(flights)]
-        designator = (flight[:3].strip() + flight[3:]).decode()
-        names.append(f"text{number:04}")
-        with open(os.path.join(folder, names[-1]), "w") as text:
-            text.write(f"SSM\nUTC\n01JUN{number:05}E001\nEQT\n{designator}\n01JUL25 07JUL25 1234567\nJ 319 CY\n")
-    return names, designator
 
 
 def mean_of_best(runs):
@@ -42,18 +26,10 @@ def mean_of_best(runs):
     return sum(sorted(seconds for seconds, _ in runs)[:5]) / 5, max(peak for _, peak in runs)
 
 
-def report(title, ours, other, more=()):
-    """Prints the seconds and the peaks of the two programs, and the seconds of `cp` if it ran."""
-    (seconds, peak), (other_seconds, other_peak) = ours, other
-    copies = "".join(f"  cp {copied:.3f} s" for copied, _ in more)
-    print(f"{title:14} {seconds:8.3f} {other_seconds:8.3f} {seconds / other_seconds:6.2f} "
-          f"{peak / 2**20:10.1f} {other_peak / 2**20:10.1f} {peak / other_peak:6.2f}{copies}", flush=True)
-
-
 def compare(title, lines, folder):
     """The best of each command line."""
     found = [best(runs) for runs in in_turn([(0, line) for line in lines], folder, RUNS)]
-    report(title, *found[:2], found[2:])
+    print_pair(title, *found[:2], "".join(f"  cp {copied:.3f} s" for copied, _ in found[2:]))
 
 
 def compare_orders(both, dataset, names, folder):
@@ -74,25 +50,18 @@ def compare_file(both, folder):
     lines += [(0, line) for line in both(["take", "desk.@", "again.@", "text0000"])]
     lines.append((0, ["/bin/cp", "desk.a", "copy"]))
     opened, other_opened, kept, other_kept, copied = [mean_of_best(runs) for runs in in_turn(lines, folder, MANY)]
-    report("open", opened, other_opened)
-    report("open and save", kept, other_kept, [copied])
+    print_pair("open", opened, other_opened)
+    print_pair("open and save", kept, other_kept, f"  cp {copied[0]:.3f} s")
     saved, other_saved = kept[0] - opened[0], other_kept[0] - other_opened[0]
     print(f"{'save':14} {saved:8.3f} {other_saved:8.3f} {saved / other_saved:6.2f}", flush=True)
 
 
 def main():
-    if len(sys.argv) < 3:
-        sys.exit(__doc__)
-    ours, other = [os.path.abspath(path) for path in sys.argv[1:3]]
-    folder = os.path.abspath(sys.argv[3]) if len(sys.argv) > 3 else tempfile.mkdtemp()
-    os.makedirs(folder, exist_ok=True)
-    size = int(sys.argv[4]) if len(sys.argv) > 4 else 900_000
-    count = int(sys.argv[5]) if len(sys.argv) > 5 else 1_000
+    (ours, other), folder, words = arguments(__doc__, 2)
+    size, count = (int(word) for word in (words + ["900000", "1000"][len(words) :]))
     dataset = f"{size}.ssim"
     if not os.path.exists(os.path.join(folder, dataset)):
-        large = [sys.executable, os.path.join(HERE, "large.py"), str(size), os.path.join(folder, dataset)]
-        subprocess.run(large, check=True, stdout=sys.stderr)
-    open(os.path.join(folder, "none"), "w").close()
+        chapter7.write(os.path.join(folder, dataset), large.records(size))
     texts, designator = write_texts(folder, dataset, count)
     half = count // 2
 

@@ -1,7 +1,7 @@
 #!/usr/bin/env python3
 """Measures all figures of speed, and writes them into the pages: figures.py run OURS OTHER FIGURES [FOLDER]; figures.py page FIGURES
 
-`run` runs `shapes.py`, `measure.py` and `desks.py` on the two programs, counts instructions by callgrind, and writes what they print to
+`run` runs `data_sets.py` and `desks.py` on the two programs, counts instructions by callgrind, and writes what they print to
 the file FIGURES. Files are made in FOLDER where they are not there yet. Run it with nothing beside it. `page` writes the tables of
 README.md and bench/README.md, between the lines that mark their places. What is above its goal is not hidden: each row has its ratio.
 """
@@ -12,11 +12,11 @@ import subprocess
 import sys
 import tempfile
 
-from chapter7 import date
-from shapes import SHAPES, write
+from measure import TOP, instructions
+from chapter7 import write
+from shapes import records
 
 HERE = os.path.dirname(os.path.abspath(__file__))
-TOP = os.path.dirname(HERE)
 BEGIN, END = "<!--figures-->", "<!--/figures-->"
 
 # Flights of the smaller data set whose instructions are counted; the larger one has three times as many.
@@ -24,9 +24,9 @@ COUNTED = {"dates": 110, "weeks": 1_600}
 
 # The rows of the README: what is measured, the script, its row and the command.
 SHORT = [
-    ("`check`, one record a date, 180,003 records, seconds", "shapes", "dates check"),
-    ("`tidy` of them", "shapes", "dates tidy"),
-    ("`tidy` of 180,003 records in weekly strips", "shapes", "weeks tidy"),
+    ("`check`, one record a date, 180,003 records, seconds", "data_sets", "dates check"),
+    ("`tidy` of them", "data_sets", "dates tidy"),
+    ("`tidy` of 180,003 records in weekly strips", "data_sets", "weeks tidy"),
     ("`take` of 1,000 texts, desk of 900,020 records", "desks", "take 1000"),
     ("`export` of this desk", "desks", "export"),
 ]
@@ -55,29 +55,19 @@ def rows_of(script, programs, folder):
     return found
 
 
-def instructions(program, words, folder):
-    """How many instructions a run takes."""
-    with tempfile.NamedTemporaryFile("r") as counts:
-        command = ["valgrind", "--tool=callgrind", f"--callgrind-out-file={counts.name}", program, *words]
-        subprocess.run(command, cwd=folder, stdout=subprocess.DEVNULL, stderr=subprocess.DEVNULL, check=True)
-        return int(re.search(r"^(?:summary|totals): (\d+)", counts.read(), re.MULTILINE).group(1))
-
-
 def instructions_a_record(shape, command, programs, folder):
     """The instructions of each program for a record more."""
-    lines, first, last = SHAPES[shape]
     totals, sizes = [], []
     for flights in (COUNTED[shape], 3 * COUNTED[shape]):
         name = f"{shape}-{flights}.ssim"
-        write(os.path.join(folder, name), lines(flights), date(first), date(last))
-        sizes.append(os.path.getsize(os.path.join(folder, name)) // 201)
+        sizes.append(write(os.path.join(folder, name), records(shape, flights)))
         totals.append([instructions(program, [command, name], folder) for program in programs])
     return [(more - less) / (sizes[1] - sizes[0]) for less, more in zip(*totals)]
 
 
 def measured(programs, folder):
     """All figures."""
-    figures = {script: rows_of(script, programs, folder) for script in ("shapes", "measure", "desks")}
+    figures = {script: rows_of(script, programs, folder) for script in ("data_sets", "desks")}
     figures["instructions"] = {f"{shape} {command}": instructions_a_record(shape, command, programs, folder)
                                for shape in COUNTED for command in ("tidy", "check")}
     return figures
@@ -99,17 +89,14 @@ def long_tables(figures):
     for name, (ours, other) in figures["instructions"].items():
         shape, command = name.split()
         lines.append(row(f"{SHAPE_NAMES[shape].rsplit(', ', 1)[0]}: `{command}`, instructions a record", ours, other, ",.0f"))
-    for name, (ours, other, *_) in figures["shapes"].items():
+    for name, (ours, other, *_) in figures["data_sets"].items():
         shape, command = name.split()
-        lines.append(row(f"{SHAPE_NAMES[shape]}: `{command}`, seconds", ours, other, ".3f"))
-    for name, (ours, other, *_) in figures["measure"].items():
-        size, command = name.split()
-        lines.append(row(f"two legs and 43 records a flight, {int(size):,} records: `{command}`, seconds", ours, other, ".3f"))
-    for script, names in (("measure", ["900000 check", "900000 tidy"]), ("shapes", ["dates tidy", "weeks tidy", "legs tidy"])):
-        for name in names:
-            title, command = name.split()
-            of = SHAPE_NAMES.get(title) or f"{int(title):,} records"
-            lines.append(row(f"{of}: most memory of `{command}`, MiB", *figures[script][name][2:], ".0f"))
+        of = SHAPE_NAMES.get(shape) or f"two legs and 43 records a flight, {int(shape):,} records"
+        lines.append(row(f"{of}: `{command}`, seconds", ours, other, ".3f"))
+    for name in ("900000 check", "900000 tidy", "dates tidy", "weeks tidy", "legs tidy"):
+        shape, command = name.split()
+        of = SHAPE_NAMES.get(shape) or f"{int(shape):,} records"
+        lines.append(row(f"{of}: most memory of `{command}`, MiB", *figures["data_sets"][name][2:], ".0f"))
     lines += ["", "Commands on desk files, 900,020 records and 1,000 texts (`bench/desks.py`):", "",
               "| Command | Seconds | Plain Rust | Ratio | MiB | Plain Rust | Ratio |", "|---|---|---|---|---|---|---|"]
     for name, (ours, other, *peaks) in figures["desks"].items():

@@ -6,33 +6,14 @@ these dates ten minutes later. `tidy` and `export` are refused with 50, since th
 the seconds of each command (the best of three runs) and the growth from the first number of dates to the last: 4 is linear, 16 is
 quadratic. GNU time reads the memory.
 """
-import datetime
 import os
-import sys
-import tempfile
 
-from chapter7 import date, days
-from measure import best, once
-from shapes import DAY, leg_line, write
+from measure import arguments, best, once
+from chapter7 import write
+from shapes import records
 
 RUNS = 3
 DATES = 4_500
-FIRST, LAST = datetime.date(2000, 1, 1), datetime.date(2099, 12, 31)
-
-
-def clock(minutes):
-    """A time of day, as the passenger and the aircraft time."""
-    text = f"{minutes // 60 % 24:02}{minutes % 60:02}"
-    return text + text
-
-
-def lines(count, later=0):
-    """One record a date. No two dates have the same times."""
-    for place in range(count):
-        day = FIRST + place * DAY
-        line = leg_line(0, 1, date(day), date(day), days(1 << day.weekday())).decode("ascii")
-        start, end = place % 1_440, (place // 1_440 * 17 + place + 60 + later) % 1_440
-        yield f"{line[:39]}{clock(start)}{line[47:57]}{clock(end)}{line[65:]}".encode("ascii")
 
 
 def commands(count):
@@ -58,18 +39,13 @@ def write_files(program, folder, count):
     for name, later in ((f"{count}.ssim", 0), (f"{count}.later.ssim", 10)):
         path = os.path.join(folder, name)
         if not os.path.exists(path):
-            write(path, lines(count, later), date(FIRST), date(LAST))
-    open(os.path.join(folder, "none"), "w").close()
+            write(path, records("itineraries", count, later))
     once(program, ["start", f"{count}.ssim", "none", f"{count}.desk"], folder)
 
 
 def main():
-    if len(sys.argv) < 2:
-        sys.exit(__doc__)
-    program = os.path.abspath(sys.argv[1])
-    folder = os.path.abspath(sys.argv[2]) if len(sys.argv) > 2 else tempfile.mkdtemp()
-    os.makedirs(folder, exist_ok=True)
-    dates = int(sys.argv[3]) if len(sys.argv) > 3 else DATES
+    (program,), folder, words = arguments(__doc__, 1)
+    dates = int(words[0]) if words else DATES
     counts = [dates, 2 * dates, 4 * dates]
     for count in counts:
         write_files(program, folder, count)

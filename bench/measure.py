@@ -1,20 +1,27 @@
-#!/usr/bin/env python3
-"""Measures `tidy` and `check` of two programs side by side: measure.py OURS OTHER [FOLDER] [RECORDS..]
-
-Data sets of 10,000, 100,000 and 900,000 records (or of RECORDS) are made in FOLDER where they are not there yet. Each
-command runs five times with each program, in turn; the best time and the greatest peak memory of each count. Printed
-are seconds, their ratio, peak memory and its ratio, memory for each byte of the file, and the time for a record
-against that of the smallest set. GNU time (`/usr/bin/time`) reads the memory.
-"""
+"""Seconds, peak memory and instructions of commands, for the scripts of this folder. GNU time (`/usr/bin/time`) reads the memory."""
 import os
+import re
 import subprocess
 import sys
 import tempfile
 import time
 
+TOP = os.path.dirname(os.path.dirname(os.path.abspath(__file__)))
 RUNS = 5
-SIZES = [10_000, 100_000, 900_000]
-HERE = os.path.dirname(os.path.abspath(__file__))
+
+# The generators. A script of this folder imports this module before them.
+sys.path.insert(0, os.path.join(TOP, "make"))
+
+
+def arguments(doc, programs):
+    """The words of a command line: the programs, FOLDER or a new one, which is made with the empty file `none`, and further words."""
+    words = sys.argv[1:]
+    if len(words) < programs:
+        sys.exit(doc)
+    folder = os.path.abspath(words[programs]) if len(words) > programs else tempfile.mkdtemp()
+    os.makedirs(folder, exist_ok=True)
+    open(os.path.join(folder, "none"), "w").close()
+    return [os.path.abspath(path) for path in words[:programs]], folder, words[programs + 1 :]
 
 
 def once(program, words, folder, status=0):
@@ -42,31 +49,16 @@ def in_turn(lines, folder, runs):
     return found
 
 
-def row(command, name, programs, folder):
-    """The best of each program."""
-    return [best(runs) for runs in in_turn([(0, [program, command, name]) for program in programs], folder, RUNS)]
+def instructions(program, words, folder):
+    """How many instructions a run takes, by callgrind."""
+    with tempfile.NamedTemporaryFile("r") as counts:
+        command = ["valgrind", "--tool=callgrind", f"--callgrind-out-file={counts.name}", program, *words]
+        subprocess.run(command, cwd=folder, stdout=subprocess.DEVNULL, stderr=subprocess.DEVNULL, check=True)
+        return int(re.search(r"^(?:summary|totals): (\d+)", counts.read(), re.MULTILINE).group(1))
 
 
-def main():
-    if len(sys.argv) < 3:
-        sys.exit(__doc__)
-    programs = [os.path.abspath(path) for path in sys.argv[1:3]]
-    folder = os.path.abspath(sys.argv[3]) if len(sys.argv) > 3 else tempfile.mkdtemp()
-    os.makedirs(folder, exist_ok=True)
-    first = {}
-    print("records  command   ours s  other s  ratio   ours MiB  other MiB  ratio  B/byte  s/record against the first")
-    for size in [int(word) for word in sys.argv[4:]] or SIZES:
-        name = f"{size}.ssim"
-        path = os.path.join(folder, name)
-        if not os.path.exists(path):
-            subprocess.run([sys.executable, os.path.join(HERE, "large.py"), str(size), path], check=True, stdout=sys.stderr)
-        for command in ("tidy", "check"):
-            (seconds, peak), (other_seconds, other_peak) = row(command, name, programs, folder)
-            growth = seconds / size / first.setdefault(command, seconds / size)
-            print(f"{size:7}  {command:7} {seconds:8.3f} {other_seconds:8.3f} {seconds / other_seconds:6.2f} "
-                  f"{peak / 2**20:10.1f} {other_peak / 2**20:10.1f} {peak / other_peak:6.2f} "
-                  f"{peak / os.path.getsize(path):7.2f} {growth:6.2f}", flush=True)
-
-
-if __name__ == "__main__":
-    main()
+def print_pair(title, ours, other, more=""):
+    """Prints the seconds and the peaks of two programs, with their ratios."""
+    (seconds, peak), (other_seconds, other_peak) = ours, other
+    print(f"{title:14} {seconds:8.3f} {other_seconds:8.3f} {seconds / other_seconds:6.2f} "
+          f"{peak / 2**20:10.1f} {other_peak / 2**20:10.1f} {peak / other_peak:6.2f}{more}", flush=True)

@@ -1,5 +1,5 @@
 #!/usr/bin/env python3
-"""Measures whether messages may come in any order: orders.py OURS [COUNT] [FOLDER]
+"""Measures whether messages may come in any order: orders.py OURS [FOLDER] [COUNT]
 
 COUNT (100,000), twice and four times as many small texts are brought to an empty desk in order of reference, in falling order, and in a
 seeded random order:
@@ -19,21 +19,12 @@ import random
 import resource
 import subprocess
 import sys
-import tempfile
 
-from measure import HERE, RUNS
+from measure import RUNS, TOP, arguments
+from texts import reference, sample_text, write_mailbox
 
 ORDERS = ("sorted", "falling", "random")
-SAMPLES = os.path.join(os.path.dirname(HERE), "samples")
-
-
-def reference(number):
-    return f"01FEB{1 + number // 10:05}E{1 + number % 10:03}"
-
-
-def text(number):
-    """A text that changes the equipment of a flight of the sample season in some weeks."""
-    return f"SSM\nLT\n{reference(number)}\nEQT\nZ7341\n03JUL27 29AUG27 67\nJ 32N CY\n"
+RUN = {"check": True, "stdout": subprocess.DEVNULL}
 
 
 def in_orders(numbers):
@@ -45,7 +36,7 @@ def in_orders(numbers):
 def seconds(words, folder):
     """Processor seconds of one run."""
     before = resource.getrusage(resource.RUSAGE_CHILDREN)
-    subprocess.run(words, cwd=folder, check=True, stdout=subprocess.DEVNULL)
+    subprocess.run(words, cwd=folder, **RUN)
     after = resource.getrusage(resource.RUSAGE_CHILDREN)
     return after.ru_utime + after.ru_stime - before.ru_utime - before.ru_stime
 
@@ -66,15 +57,10 @@ class Report:
         print(f"| {title} | {count:,} | {spent:.3f} | {spent / sorted_spent:.2f} | {spent / count / self.first[title]:.2f} |", flush=True)
 
 
-def write_mailbox(path, numbers):
-    with open(path, "w") as file:
-        file.write("".join(text(number) + "NNNN\n" for number in numbers))
-
-
 def measure_receive(ours, folder, count, report):
     spent = {}
     for order, numbers in in_orders(range(count)).items():
-        write_mailbox(os.path.join(folder, order), numbers)
+        write_mailbox(os.path.join(folder, order), map(sample_text, numbers))
         spent[order] = least([ours, "receive", "empty", f"{order}.desk", order], folder)
         report.row(f"`receive`, {order}", count, spent[order], spent["sorted"])
     for order in ORDERS[1:]:
@@ -86,7 +72,7 @@ def measure_take(ours, folder, count, report):
     """The names of the files are short, since they are all on one command line."""
     for number in range(count):
         with open(os.path.join(folder, f"{number:x}"), "w") as file:
-            file.write(text(number))
+            file.write(sample_text(number))
     spent = {}
     for order, numbers in in_orders(range(count)).items():
         spent[order] = least([ours, "take", "empty", "taken.desk", *[f"{number:x}" for number in numbers]], folder)
@@ -104,8 +90,8 @@ def measure_withdraw(ours, folder, count, report):
 def measure_merge(ours, folder, count, report):
     halves = {"earlier": range(count // 2), "later": range(count // 2, count), "even": range(0, count, 2), "odd": range(1, count, 2)}
     for name, numbers in halves.items():
-        write_mailbox(os.path.join(folder, name), numbers)
-        subprocess.run([ours, "receive", "empty", f"{name}.desk", name], cwd=folder, check=True, stdout=subprocess.DEVNULL)
+        write_mailbox(os.path.join(folder, name), map(sample_text, numbers))
+        subprocess.run([ours, "receive", "empty", f"{name}.desk", name], cwd=folder, **RUN)
     spent = {}
     for one, other in (("earlier", "later"), ("even", "odd")):
         spent[one] = least([ours, "merge", f"{one}.desk", f"{other}.desk", "merged.desk"], folder)
@@ -113,14 +99,9 @@ def measure_merge(ours, folder, count, report):
 
 
 def main():
-    if not 2 <= len(sys.argv) <= 4:
-        sys.exit(__doc__)
-    ours = os.path.abspath(sys.argv[1])
-    fewest = int(sys.argv[2]) if len(sys.argv) > 2 else 100_000
-    folder = os.path.abspath(sys.argv[3]) if len(sys.argv) > 3 else tempfile.mkdtemp()
-    os.makedirs(folder, exist_ok=True)
-    open(os.path.join(folder, "none"), "w").close()
-    subprocess.run([ours, "start", os.path.join(SAMPLES, "season.ssim"), "none", "empty"], cwd=folder, check=True, stdout=subprocess.DEVNULL)
+    (ours,), folder, words = arguments(__doc__, 1)
+    fewest = int(words[0]) if words else 100_000
+    subprocess.run([ours, "start", os.path.join(TOP, "samples", "season.ssim"), "none", "empty"], cwd=folder, **RUN)
     report = Report()
     for count in (fewest, 2 * fewest, 4 * fewest):
         measure_receive(ours, folder, count, report)

@@ -13,7 +13,6 @@ import fcntl
 import os
 import resource
 import shutil
-import signal
 import subprocess
 import sys
 import tempfile

@@ -23,14 +23,11 @@ import sys
 import tempfile
 
 TOP = os.path.dirname(os.path.dirname(os.path.abspath(__file__)))
-sys.path.insert(0, os.path.join(TOP, "bench"))
+sys.path.insert(0, os.path.join(TOP, "make"))
 
 from cases import vectors
-from commands import plain_season
-from chapter7 import with_serial
-
-# A folder in memory, if there is one: a desk file is synced whenever it is kept.
-FAST = "/dev/shm" if os.access("/dev/shm", os.W_OK) else None
+from chapter7 import data_set, plain_season
+from small_runs import fast_folder
 
 TEXT = b"SSM\nUTC\n01JUN00001E001\nCNL\nLX544\n01JUL25 07JUL25 2\n"
 OTHER_TEXTS = [
@@ -80,8 +77,8 @@ def read(folder, name):
 
 def small_files(program, folder):
     """The files, each with what is to be said of it and the places that are altered."""
-    records = [with_serial(line, serial) + b"\n" for serial, line in enumerate(plain_season(), 1)]
-    for name, data in ("season", b"".join(records)), ("none", b""), ("rows", ROWS), ("text", TEXT):
+    season = data_set(plain_season())
+    for name, data in ("season", season), ("none", b""), ("rows", ROWS), ("text", TEXT):
         write(folder, name, data)
     run(program, folder, "start", "season", "none", "desk")
     run(program, folder, "start", "season", "rows", "sender")
@@ -89,7 +86,7 @@ def small_files(program, folder):
     desk, held = read(folder, "desk"), read(folder, "held")
     assert [len(desk), len(held)] == [848, 907]
     same = len(os.path.commonprefix([desk, held]))
-    whole = [(b"".join(records), is_data_set), *((text, is_text) for text in [TEXT, *OTHER_TEXTS]), (SCRIPT, is_script), (held, is_desk)]
+    whole = [(season, is_data_set), *((text, is_text) for text in [TEXT, *OTHER_TEXTS]), (SCRIPT, is_script), (held, is_desk)]
     first_version = held.replace(b"SSIMDESK 2", b"SSIMDESK 1")
     return [*((data, is_right, range(len(data))) for data, is_right in whole), (desk, is_desk, range(same, len(desk))),
             (first_version, is_desk, [*range(FIRST_LINE), *range(same, len(held))])]
@@ -191,7 +188,7 @@ def main():
     if len(sys.argv) != 2:
         sys.exit(__doc__)
     program, passed, failed = os.path.abspath(sys.argv[1]), 0, 0
-    with tempfile.TemporaryDirectory(dir=FAST) as folder:
+    with tempfile.TemporaryDirectory(dir=fast_folder()) as folder:
         for data, is_right, places in small_files(program, folder):
             for name, other in altered(data, places):
                 write(folder, "altered", other)

@@ -17,17 +17,15 @@ import sys
 import time
 
 HERE = os.path.dirname(os.path.abspath(__file__))
-sys.path.insert(0, os.path.join(os.path.dirname(HERE), "bench"))
+sys.path.insert(0, os.path.join(os.path.dirname(HERE), "make"))
 
 from cases import bytes_shown, shown
-from chapter7 import date, with_serial
-from commands import plain_season
-from messages import day_of, spelt, written
+from chapter7 import DAY, data_set, date, day_of, plain_season
+from messages import Stations, spelt, written
 
 DESKS = (1, 2, 3)
 STEPS = 40
 REFERENCES = 96
-DAY = datetime.timedelta(days=1)
 
 # The flight of the data set, and one that it does not have.
 FLIGHTS = ["LX544", "LX600"]
@@ -38,6 +36,7 @@ FIRST = datetime.date(2025, 10, 1)
 
 # No row has the station JFK.
 STATIONS = ["ZRH 30MAR25 25OCT25 +0200", "LHR 30MAR25 25OCT25 +0100", "ZRH 26OCT25 28MAR26 +0100", "LHR 26OCT25 28MAR26 +0000"]
+ROWS = Stations(STATIONS)
 LEG_LINES = [["ZRH0545 LHR0700"], ["ZRH0600 LHR0715"], ["ZRH0800 LHR0930", "LHR1030 ZRH1245"], ["ZRH0545 JFK1200"]]
 CLASSES = ["acted", "absent", "present", "leg", "station"]
 
@@ -110,17 +109,9 @@ class Message:
             self.lines += (["//"] if number else []) + sub.lines(self.kind)
 
 
-def variation(station, day):
-    for row in STATIONS:
-        name, first, last, found = row.split()
-        if name == station and day_of(first) <= day <= day_of(last):
-            return found
-    return None
-
-
 def new_legs(sub, day):
     """The legs of the lines, or none if a station has no row on the day."""
-    found = [Leg(board, departure, variation(board, day), off, arrival, variation(off, day), sub.aircraft)
+    found = [Leg(board, departure, ROWS.at(board, day), off, arrival, ROWS.at(off, day), sub.aircraft)
              for board, departure, off, arrival in sub.ends()]
     return None if any(None in leg for leg in found) else tuple(found)
 
@@ -207,8 +198,8 @@ class Trial:
 
     def __init__(self, rng, number):
         self.title, self.rng = f"case {number}", rng
-        season = b"".join(with_serial(line, serial) + b"\n" for serial, line in enumerate(plain_season(), 1))
-        self.lines = [self.title, *file_lines("season", season), *file_lines("stations", written(STATIONS)), "desks 3 season stations"]
+        season, stations = data_set(plain_season()), written(STATIONS)
+        self.lines = [self.title, *file_lines("season", season), *file_lines("stations", stations), "desks 3 season stations"]
         self.asked = []
         self.desks = {desk: PlainDesk() for desk in DESKS}
         pool = [(Message(rng, place), Message(rng, place)) for place in range(REFERENCES)]

@@ -3,9 +3,7 @@
 A message is a list of lines in their canonical spelling; `spelt` gives another spelling of the same message and `broken`
 makes one line invalid. `Season` has what messages name: the flights of the data set with their legs, its dates and mode.
 """
-import datetime
-
-from chapter7 import MONTHS, OPEN_END, date
+from chapter7 import DAY, OPEN_END, date, day_of
 
 LETTERS = "ABCDEFGHIJKLMNOPQRSTUVWXYZ"
 ACTIONS = ["NEW", "CNL", "RPL", "EQT", "TIM"]
@@ -21,7 +19,7 @@ class Season:
         self.airline = carrier[2:5].strip()
         self.created = day_of(carrier[28:35])
         self.first = day_of(carrier[14:21])
-        self.last = day_of(carrier[21:28]) if carrier[21:28] != OPEN_END else self.first + datetime.timedelta(days=730)
+        self.last = day_of(carrier[21:28]) if carrier[21:28] != OPEN_END else self.first + 730 * DAY
         self.legs, flown = {}, [self.first]
         for line in (line.decode("latin-1") for line in records if line[:1] == b"3"):
             flight = f"{int(line[5:9]):03}{line[1].strip()}"
@@ -38,15 +36,11 @@ class Season:
 
     def day(self, rng):
         """A day on which flights fly, or soon before or after."""
-        return self.begin + datetime.timedelta(days=rng.randrange(-10, (self.end - self.begin).days + 20))
+        return self.begin + rng.randrange(-10, (self.end - self.begin).days + 20) * DAY
 
     def is_in_first_year(self, day):
         """Whether the day can be written without its year."""
         return 0 <= (day - self.first).days < 365
-
-
-def day_of(text):
-    return datetime.date(2000 + int(text[5:7]), MONTHS.index(text[2:5]) + 1, int(text[:2]))
 
 
 def clock(rng):
@@ -60,14 +54,14 @@ def word(rng, letters, least, most):
 # ---- the parts of a message
 
 def reference_line(rng, season):
-    day = season.created + datetime.timedelta(days=rng.randrange(4))
+    day = season.created + rng.randrange(4) * DAY
     creator = rng.choice(["", "", "", "/REF 1", "/ A/B"])
     return f"{date(day)[:5]}{rng.randrange(1, 4):05}{rng.choice('EEEC')}{rng.randrange(1, 3):03}{creator}"
 
 
 def period_line(rng, season):
     first = season.day(rng)
-    last = first + datetime.timedelta(days=rng.choice([0, 0, 6, 20, 60, 200]))
+    last = first + rng.choice([0, 0, 6, 20, 60, 200]) * DAY
     days = "".join(digit for digit in "1234567" if rng.random() < 0.6) or "1234567"
     if last == first and rng.random() < 0.8:
         days = str(first.isoweekday())
@@ -223,7 +217,7 @@ def many_dates(season, flight, count):
     """A message that gives a flight another aircraft on each of the first dates of the season."""
     lines = ["SSM", season.mode, f"{date(season.created)[:5]}00009E001"]
     for place in range(count):
-        day = date(season.first + datetime.timedelta(days=place))
+        day = date(season.first + place * DAY)
         aircraft = LETTERS[place // 26] + LETTERS[place % 26] + "1"
         lines += (["//"] if place else []) + ["EQT", season.airline + flight, f"{day} {day} 1234567", f"J {aircraft}"]
     return lines
@@ -236,12 +230,23 @@ def station_rows(rng, season):
     rows = []
     for name in season.stations:
         if rng.random() < 0.8:
-            first = season.begin - datetime.timedelta(days=30)
-            middle = season.begin + datetime.timedelta(days=rng.randrange(0, 200))
-            next_first = middle + datetime.timedelta(days=rng.choice([1, 1, -5]))
-            last = middle + datetime.timedelta(days=rng.randrange(0, 400))
+            first = season.begin - 30 * DAY
+            middle = season.begin + rng.randrange(0, 200) * DAY
+            next_first = middle + rng.choice([1, 1, -5]) * DAY
+            last = middle + rng.randrange(0, 400) * DAY
             rows.append((name, first, middle, rng.choice(["+0200", "-0530", "+0000"])))
             rows.append((name, next_first, last, rng.choice(["+0100", "-0000", "+1500"])))
     rows = [row for row in rows if row[1] <= row[2]]
     rng.shuffle(rows)
     return [f"{name} {date(first)} {date(last)} {variation}" for name, first, last, variation in rows]
+
+
+class Stations:
+    """The rows of a station table."""
+
+    def __init__(self, lines):
+        self.rows = [(line[:3], day_of(line[4:11]), day_of(line[12:19]), line[20:25]) for line in lines]
+
+    def at(self, station, day):
+        """The UTC variation of a station on a day: that of the first row that holds it."""
+        return next((row[3] for row in self.rows if row[0] == station and row[1] <= day <= row[2]), None)

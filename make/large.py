@@ -8,7 +8,7 @@ import datetime
 import random
 import sys
 
-from chapter7 import blocks_of_season, carrier, date, days, header, trailer, with_serial
+from chapter7 import blocks_of_season, carrier, clock, date, days, header, trailer, write
 
 FIRST = datetime.date(2025, 3, 30)
 LAST = datetime.date(2025, 10, 25)
@@ -22,10 +22,6 @@ CONFIGURATION = ["C12Y138", "C20Y160", "F8C40Y180", "Y78", "C28Y240", ""]
 
 def variation_text(minutes):
     return f"{'-' if minutes < 0 else '+'}{abs(minutes) // 60:02}{abs(minutes) % 60:02}"
-
-
-def clock(minutes):
-    return f"{minutes // 60 % 24:02}{minutes % 60:02}"
 
 
 def stations(rng, count):
@@ -73,30 +69,24 @@ def flight_records(rng, number, suffix, places):
     return found
 
 
+def records(wanted, seed=1):
+    """The records of whole flights, some more than are wanted."""
+    rng = random.Random(seed)
+    places, flight, count = stations(rng, 150), 0, 2
+    yield header()
+    yield carrier("LX ", date(FIRST), date(LAST), date(CREATED))
+    while count < wanted - 1:
+        turn, number = divmod(flight, 9999)
+        lines = flight_records(rng, number + 1, " ABCDEFGHIJKLMNOPQRSTUVWXYZ"[turn], places)
+        yield from (line.encode("ascii").ljust(200) for line in lines)
+        flight, count = flight + 1, count + len(lines)
+    yield trailer("LX ", date(CREATED), 0)
+
+
 def main():
     if len(sys.argv) not in (3, 4):
         sys.exit(__doc__)
-    wanted, path = int(sys.argv[1]), sys.argv[2]
-    rng = random.Random(int(sys.argv[3]) if len(sys.argv) == 4 else 1)
-    places = stations(rng, 150)
-    serial = 0
-    with open(path, "wb") as out:
-
-        def put(line):
-            nonlocal serial
-            serial += 1
-            out.write(with_serial(line, serial) + b"\n")
-
-        put(header())
-        put(carrier("LX ", date(FIRST), date(LAST), date(CREATED)))
-        flight = 0
-        while serial < wanted - 1:
-            turn, number = divmod(flight, 9999)
-            for line in flight_records(rng, number + 1, " ABCDEFGHIJKLMNOPQRSTUVWXYZ"[turn], places):
-                put(line.encode("ascii").ljust(194))
-            flight += 1
-        put(trailer("LX ", date(CREATED), serial))
-    print(f"{path}: {flight} flights, {serial} records")
+    print(f"{sys.argv[2]}: {write(sys.argv[2], records(*map(int, sys.argv[1:2] + sys.argv[3:])))} records")
 
 
 if __name__ == "__main__":

@@ -1,31 +1,20 @@
-#!/usr/bin/env python3
-"""Compares two programs on desk files: desk_files.py OURS OTHER [COUNT] [SEED] [FOLDER]
+"""Desk files, beside another program.
 
-COUNT (200) seeded desk files are written here, by their format, over small data sets with high bytes in carried columns:
-with station rows, segment lines, originators, free text, both time modes, versions 1 and 2. Every second one has one
-element broken. On each file `findings`, `export`, `show`, `take` and `merge` of both programs have to agree in status,
-standard output, standard error and every file. A file that is not broken has to be written again with the same bytes
-(the first line of a version 1 file aside); a broken one has to be refused as 62 at the offset of its element, which is
-known here. The differences are printed, then how often each element was broken; the exit status says whether there
-were differences.
+Desk files are written here, by their format, over small data sets with high bytes in carried columns: with station rows, segment lines,
+originators, free text, both time modes, versions 1 and 2. Half of them have one element broken. On each file `findings`, `export`, `show`,
+`take` and `merge` of both programs have to agree in status, standard output, standard error and every file. A file that is not broken has
+to be written again with the same bytes (the first line of a version 1 file aside); a broken one has to be refused as 62 at the offset of
+its element, which is known here.
 """
-import collections
-import os
-import random
-import shutil
-import sys
-import tempfile
-
 import messages
 import small
-from chapter7 import FILL, OPEN_END, date, days
-from commands import Run, write_files
-from small import with_column
-
+from chapter7 import DAY, FILL, OPEN_END, date, days, with_column
+from commands import both
 
 # What is broken, as often as it is named.
-KINDS = ["first line", "RECORDS", "record", "record", "STATIONS", "row", "TEXTS", "TEXT", "text", "text", "END", "cut",
-         "after"]
+BROKEN = ["first line", "RECORDS", "record", "record", "STATIONS", "row", "TEXTS", "TEXT", "text", "text", "END", "cut",
+          "after"]
+KINDS = BROKEN + ["nothing"] * len(BROKEN)
 
 
 # ---- a desk file, as the list of its elements
@@ -62,7 +51,7 @@ def order_of(season, lines):
     """What a reference is ordered by. Its date is one of the first days from the creation date on."""
     place = messages.kind_place(lines)
     text = lines[place + 2]
-    day = next(day for day in range(400) if date(season.created + messages.datetime.timedelta(days=day))[:5] == text[:5])
+    day = next(day for day in range(400) if date(season.created + day * DAY)[:5] == text[:5])
     return day, int(text[5:10]), int(text[11:14]), lines[place] == "ASM", lines[0][1:8] if place else " " * 7
 
 
@@ -176,19 +165,18 @@ def free(lines):
     return any(line.startswith("SI") for line in lines)
 
 
-def broken(rng, desk):
-    """What is broken, the bytes of the file, and the offset that is to be named."""
+def broken(rng, desk, kind):
+    """The bytes of a file of which this is broken, and the offset that is to be named."""
     elements = desk.elements()
-    kind = rng.choice(KINDS)
     places = places_of(elements, kind)
     if kind == "after":
         data = joined(elements)
-        return kind, data + rng.choice([b"\n", b"END\n", b"\x00"]), len(data)
+        return data + rng.choice([b"\n", b"END\n", b"\x00"]), len(data)
     if kind == "cut" or not places:
         data = joined(elements)
         length = rng.randrange(len(data))
         offsets = [offset_of(elements, place) for place in range(len(elements))]
-        return "cut", data[:length], max(offset for offset in offsets if offset <= length)
+        return data[:length], max(offset for offset in offsets if offset <= length)
     place = rng.choice(places)
     offset, data = offset_of(elements, place), elements[place][1]
     if kind in ("RECORDS", "STATIONS", "TEXTS", "TEXT"):
@@ -210,10 +198,23 @@ def broken(rng, desk):
     else:
         changed = broken_row(rng, data)
     elements[place] = (kind, changed)
-    return kind, joined(elements), offset
+    return joined(elements), offset
 
 
 # ---- running
+
+def make(rng, room, kind):
+    """The desk, the bytes of its file, and the offset of what is broken."""
+    desk = Desk(rng)
+    data, offset = (joined(desk.elements()), None) if kind == "nothing" else broken(rng, desk, kind)
+    old = rng.choice(desk.texts or [messages.message(rng, desk.season)])
+    other = messages.replaced(old, messages.kind_place(old) + 3, "CNL")[: messages.kind_place(old) + 6]
+    files = {"desk": data, "old": messages.spelt(rng, old), "other": messages.written(other),
+             "new": messages.written(messages.message(rng, desk.season))}
+    for name, written in files.items():
+        room.write(name, written)
+    return desk, data, offset
+
 
 def commands_for(rng, desk):
     dates = [(desk.season.airline + desk.season.flight(rng), date(desk.season.day(rng))) for _ in range(4)]
@@ -223,54 +224,12 @@ def commands_for(rng, desk):
     return [line.split() for line in lines]
 
 
-def compare(rng, run, desk, name, data, offset):
-    """The first command on which the programs differ, or what is not as it has to be."""
-    texts = desk.texts or [messages.message(rng, desk.season)]
-    old = rng.choice(texts)
-    other = messages.replaced(old, messages.kind_place(old) + 3, "CNL")[: messages.kind_place(old) + 6]
-    write_files(run.folders, {"desk": data, "old": messages.spelt(rng, old), "other": messages.written(other),
-                              "new": messages.written(messages.message(rng, desk.season))})
+def compared(rng, room, case):
+    desk, data, offset = case
     for words in commands_for(rng, desk):
-        status, answer, found = run.both(words, b"")
-        if found:
-            return [" ".join(words), *found]
-        if words[0] == "findings" and words[1] == "desk":
-            if offset is None and status != 0:
-                return [f"a valid file is refused: {answer[2]!r}"]
-            if offset is not None and answer[2] != b"refused 62 DeskFile offset %d\n" % offset:
-                return [f"broken {name}: offset {offset} was expected, and {answer[2]!r} came"]
+        values = both(room, words)
+        yield from values
+        if words == ["findings", "desk"]:
+            yield "refusal of the file", values[0][1].err, "" if offset is None else f"refused 62 DeskFile offset {offset}\n"
         if words[-1] == "copy" and offset is None:
-            with open(os.path.join(run.folders[0], "copy"), "rb") as file:
-                if file.read() != b"SSIMDESK 2" + data[10:]:
-                    return ["the file was not written again with the same bytes"]
-    return []
-
-
-def main():
-    if not 3 <= len(sys.argv) <= 6:
-        sys.exit(__doc__)
-    programs = [os.path.abspath(path) for path in sys.argv[1:3]]
-    total, seed = (int(word) for word in (sys.argv[3:5] + ["200", "1"][len(sys.argv[3:5]) :]))
-    top = sys.argv[5] if len(sys.argv) == 6 else tempfile.mkdtemp()
-    counts, wrong = collections.Counter(), 0
-    for number in range(1, total + 1):
-        rng = random.Random(seed * 1_000_003 + number)
-        desk = Desk(rng)
-        name, data, offset = broken(rng, desk) if number % 2 == 0 else ("nothing", joined(desk.elements()), None)
-        folder = os.path.join(top, f"{number:03}")
-        run = Run(programs, [os.path.join(folder, each) for each in ("ours", "other")])
-        found = compare(rng, run, desk, name, data, offset)
-        counts[name] += 1
-        if found:
-            wrong += 1
-            print(f"file {number} in {folder}:", *found, sep="\n  ")
-        else:
-            shutil.rmtree(folder)
-    for name, times in sorted(counts.items()):
-        print(f"{times:6} {name} broken")
-    print(f"{total} desk files in {top}, seed {seed}: {wrong} differences")
-    sys.exit(1 if wrong else 0)
-
-
-if __name__ == "__main__":
-    main()
+            yield "the file that is written again", room.read("copy"), b"SSIMDESK 2" + data[10:]

@@ -6,8 +6,7 @@ It reads only what `tidy` and `export` write, where equal legs have equal column
 import collections
 import datetime
 
-from chapter7 import FILL, date
-from messages import day_of
+from chapter7 import DAY, FILL, date, day_of
 
 WEEKDAYS = "1234567"
 HEADER = ("flight,first,last,days,leg,from,passenger_departure,departure,departure_utc_variation,to,arrival,passenger_arrival,"
@@ -15,48 +14,45 @@ HEADER = ("flight,first,last,days,leg,from,passenger_departure,departure,departu
           "departure_terminal,arrival_terminal")
 
 
-class Leg:
-    """A leg on a date: its columns from 1 on, and the segment records with it."""
-
-    def __init__(self, record):
-        self.record, self.segments = record, []
+class Leg(collections.namedtuple("Leg", "columns tails")):
+    """A leg on a date. Its columns are the 194 first ones of a record, blank where they say nothing of the leg itself or no leg has them;
+    its tails are those of its segment records."""
 
     def at(self, first, last):
-        return self.record[first - 1 : last]
+        return self.columns[first - 1 : last]
+
+    def fields(self, fields):
+        return [self.at(*field) for field in fields]
 
     @property
     def sequence(self):
         return self.at(12, 13)
 
     @property
-    def key(self):
-        """What makes two legs equal: all but variation, period and serial."""
-        return self.at(1, 9) + self.at(12, 14) + self.at(36, 194), tuple(self.segments)
-
-    @property
     def line(self):
         """The line of `show`."""
         fields = [(12, 13), (37, 39), (40, 43), (44, 47), (48, 52), (55, 57), (58, 61), (62, 65), (66, 70), (193, 194), (14, 14), (73, 75)]
-        return " ".join(self.at(*field).replace(" ", ".") for field in fields)
+        return " ".join(text.replace(" ", ".") for text in self.fields(fields))
 
 
 class Timetable:
-    """The airline, the time mode, the season, and for each flight, by number and suffix, its legs on each date."""
+    """The airline, the time mode, the season, and for each flight, by number and suffix, its itinerary on each date: a tuple of legs."""
 
     def __init__(self, data):
         records = [line.decode("latin-1") for line in data.split(b"\n") if line and line != FILL]
         carrier = next(line for line in records if line[0] == "2")
         self.mode, self.airline, self.season = carrier[1], carrier[2:5].strip(), carrier[10:13]
-        found = collections.defaultdict(lambda: collections.defaultdict(list))
+        legs, found = [], collections.defaultdict(lambda: collections.defaultdict(list))
         for record in records:
-            flight = (int(record[5:9]), record[1]) if record[0] in "34" else None
             if record[0] == "3":
-                leg = Leg(record)
+                legs.append((" " * 11 + record[11:14] + " " * 22 + record[36:127] + " " + record[128:194], []))
                 for day in dates_of(record):
-                    found[flight][day].append(leg)
+                    found[int(record[5:9]), record[1]][day].append(len(legs) - 1)
             elif record[0] == "4":
-                leg.segments.append(record[:9] + record[11:194])
-        self.flights = {flight: found[flight] for flight in sorted(found)}
+                legs[-1][1].append(record[14:27] + record[28:194])
+        legs, known = [Leg(columns, tuple(tails)) for columns, tails in legs], {}
+        self.flights = {flight: {day: known.setdefault(tuple(places), tuple(legs[place] for place in places))
+                                 for day, places in found[flight].items()} for flight in sorted(found)}
 
     def designator(self, flight):
         number, suffix = flight
@@ -66,12 +62,8 @@ class Timetable:
 def dates_of(record):
     """The dates of a leg record."""
     first, last = day_of(record[14:21]), day_of(record[21:28])
-    days = (first + datetime.timedelta(days=place) for place in range((last - first).days + 1))
+    days = (first + place * DAY for place in range((last - first).days + 1))
     return [day for day in days if WEEKDAYS[day.weekday()] in record[28:35]]
-
-
-def key_of(legs):
-    return tuple(leg.key for leg in legs)
 
 
 # ---- periods
@@ -85,7 +77,7 @@ def cover(days):
         weekdays = {day.weekday() for day in left if (day - first).days < 7}
         end = first
         while (end in all_left) == (end.weekday() in weekdays) and end <= left[-1]:
-            end += datetime.timedelta(days=1)
+            end += DAY
         here = [day for day in left if day < end]
         found.append((first, here[-1], weekdays))
         left = left[len(here):]
@@ -111,7 +103,7 @@ def period_line(designator, period):
 # ---- list
 
 def is_marked(leg, others):
-    return any(other.key != leg.key and other.line == leg.line for other in others)
+    return any(other != leg and other.line == leg.line for other in others)
 
 
 def listed(table, flights=None):
@@ -121,8 +113,8 @@ def listed(table, flights=None):
         days = table.flights.get(flight, {})
         if not days:
             lines.append(f"{table.designator(flight)} no flight")
-        all_legs = {leg.key: leg for legs in days.values() for leg in legs}.values()
-        for period, day in divided({day: key_of(legs) for day, legs in days.items()}):
+        all_legs = {leg for legs in days.values() for leg in legs}
+        for period, day in divided(days):
             lines.append(period_line(table.designator(flight), period))
             lines += [f"  {leg.line}" + " *" * is_marked(leg, all_legs) for leg in days[day]]
     return lines
@@ -146,7 +138,7 @@ def rows(table, flights=None, dates=False):
         days = table.flights.get(flight, {})
         periods = [((day, day, {day.weekday()}), day) for day in sorted(days)]
         if not dates:
-            periods = divided({day: key_of(legs) for day, legs in days.items()})
+            periods = divided(days)
         lines += [row(table.designator(flight), period, leg) for period, day in periods for leg in days[day]]
     return lines
 
@@ -181,7 +173,7 @@ def movement(table, leg, day, arrives):
     if moved:
         more, minute = divmod(int(local[:2]) * 60 + int(local[2:]) + moved, 1440)
         days, local = days + more, f"{minute // 60:02}{minute % 60:02}"
-    return leg.at(station, station + 2), day + datetime.timedelta(days=days), local, doubt
+    return leg.at(station, station + 2), day + days * DAY, local, doubt
 
 
 def board(table, station, day):
@@ -212,7 +204,6 @@ def board_entry(table, flight, origin, leg, ends, arrives, day):
 LETTERS = "ABCDEFGHIJKLMNOPQRSTUVWXYZabcdefghijklmnopqrstuvwxyz"
 EARLIEST = datetime.date(2000, 1, 1)
 WEEKS = 53
-DAY = datetime.timedelta(days=1)
 
 
 def calendar(table, flight):
@@ -220,9 +211,9 @@ def calendar(table, flight):
     days = table.flights.get(flight, {})
     if not days:
         return [f"{table.designator(flight)} no flight"]
-    itineraries = list(dict.fromkeys(key_of(days[day]) for day in sorted(days)))
+    itineraries = list(dict.fromkeys(days[day] for day in sorted(days)))
     letters = {key: LETTERS[place] if place < len(LETTERS) else "#" for place, key in enumerate(itineraries)}
-    cells = {day: letters[key_of(legs)] for day, legs in days.items()}
+    cells = {day: letters[legs] for day, legs in days.items()}
     first, last = min(days), max(days)
     monday, lines = first - first.weekday() * DAY, []
     while monday <= last:
@@ -254,7 +245,7 @@ def legend_lines(days, cells):
     counts = collections.Counter(cells.values())
     width = len(str(max(count for letter, count in counts.items() if letter != "#")))
     legs_of = {cells[day]: days[day] for day in reversed(sorted(days))}
-    all_legs = {leg.key: leg for legs in days.values() for leg in legs}.values()
+    all_legs = {leg for legs in days.values() for leg in legs}
     lines = []
     for letter in filter(counts.get, LETTERS):
         head = f"{letter} {counts[letter]:{width}}"
@@ -272,10 +263,10 @@ def page_lines(table):
     lines = [f"<h1>{table.airline} {escaped(table.season)}, {mode}</h1>"]
     for flight, days in table.flights.items():
         lines.append(f"<section><h2>{table.designator(flight)}</h2><table>")
-        periods = divided({day: key_of(legs) for day, legs in days.items()})
+        periods = divided(days)
         letters = {key: LETTERS[place] if place < len(LETTERS) else "#"
-                   for place, key in enumerate(dict.fromkeys(key_of(days[day]) for _, day in periods))}
-        lines += [table_row(letters[key_of(days[day])], period, days[day]) for period, day in periods]
+                   for place, key in enumerate(dict.fromkeys(days[day] for _, day in periods))}
+        lines += [table_row(letters[days[day]], period, days[day]) for period, day in periods]
         lines.append("</table></section>")
     return lines
 
@@ -304,12 +295,12 @@ def differing(old, new):
     lines, flights, dates = [], 0, 0
     for flight in sorted(set(old.flights) | set(new.flights)):
         before, after = old.flights.get(flight, {}), new.flights.get(flight, {})
-        values = {day: (key_of(before.get(day, [])), key_of(after.get(day, []))) for day in set(before) | set(after)}
+        values = {day: (before.get(day, ()), after.get(day, ())) for day in set(before) | set(after)}
         values = {day: pair for day, pair in values.items() if pair[0] != pair[1]}
         flights, dates = flights + bool(values), dates + len(values)
         for period, day in divided(values):
             lines.append(period_line(old.designator(flight), period))
-            lines += change_lines(before.get(day, []), after.get(day, []))
+            lines += change_lines(before.get(day, ()), after.get(day, ()))
     return lines + [f"different flights {flights} dates {dates}" if dates else "same"]
 
 
@@ -318,7 +309,7 @@ def change_lines(old, new):
     lines = [] if old else ["- no flight"]
     for sequence in sorted(set(before) | set(after)):
         first, second = before.get(sequence), after.get(sequence)
-        if first and second and first.key == second.key:
+        if first and second and first == second:
             lines.append("  " + first.line)
             continue
         mark = " *" if first and second and first.line == second.line else ""

@@ -7,7 +7,7 @@ Friedrichshafen and at Hamburg. The three files in samples/ are what this script
 import os
 import sys
 
-from chapter7 import OPEN_END, header, leg, record, segment, trailer, with_serial
+from chapter7 import OPEN_END, header, leg, record, segment, trailer, write
 
 AIRLINE = "Z7 "
 FIRST, LAST, CREATED = "28MAR27", "30OCT27", "01FEB27"
@@ -231,15 +231,6 @@ def records(flights, terminals):
     yield trailer(AIRLINE, CREATED, 0)
 
 
-def data_set(flights, terminals):
-    found = b""
-    for serial, line in enumerate(records(flights, terminals), 1):
-        if line[:1] == b"5":
-            line = line[:187] + f"{serial - 1:06}".encode("ascii") + line[193:]
-        found += with_serial(line, serial) + b"\n"
-    return found
-
-
 def stations():
     lines = []
     for name, (summer, winter) in sorted(variations().items()):
@@ -255,10 +246,8 @@ def main():
         sys.exit(__doc__)
     os.makedirs(sys.argv[1], exist_ok=True)
     flights = flights_of(FLIGHTS)
-    with open(os.path.join(sys.argv[1], "season.ssim"), "wb") as file:
-        file.write(data_set(flights, {}))
-    with open(os.path.join(sys.argv[1], "planned.ssim"), "wb") as file:
-        file.write(data_set({**flights, **flights_of(PLANNED)}, TERMINALS))
+    write(os.path.join(sys.argv[1], "season.ssim"), records(flights, {}))
+    write(os.path.join(sys.argv[1], "planned.ssim"), records({**flights, **flights_of(PLANNED)}, TERMINALS))
     with open(os.path.join(sys.argv[1], "stations.txt"), "w", encoding="ascii") as file:
         file.write(stations())
 

@@ -9,7 +9,7 @@ import os
 import random
 import sys
 
-from chapter7 import (FILL, OPEN_END, blocks_of_season, carrier, date, days, header, leg, segment, trailer, with_serial)
+from chapter7 import DAY, FILL, OPEN_END, blocks_of_season, carrier, date, days, header, leg, segment, trailer, with_column, with_serial
 
 LETTERS = "ABCDEFGHIJKLMNOPQRSTUVWXYZ"
 
@@ -86,7 +86,7 @@ def single_dates(rng, flight, first):
     """A date each with a leg of its own: as many itinerary variations as may be, or one more."""
     found = []
     for place in range(rng.choice([99, 100])):
-        day = date(first + datetime.timedelta(days=place))
+        day = date(first + place * DAY)
         columns = leg_columns(rng) + [(40, f"{place // 60:02}{place % 60:02}")]
         found.append(leg(flight, "01", "01", day, day, "1234567", columns))
     return found
@@ -100,7 +100,7 @@ def many_dates(rng, flight, first):
     rng.choice([lambda: None, places.reverse, lambda: rng.shuffle(places)])()
     found = []
     for place in places:
-        day = date(first + datetime.timedelta(days=place))
+        day = date(first + place * DAY)
         found.append(leg(flight, "01", "01", day, day, "1234567", legs[place // run % len(legs)]))
     return found
 
@@ -110,7 +110,7 @@ def repeated_legs(rng, flight, first):
     legs = [(sequence, leg_columns(rng), [segment_columns(rng) for _ in range(rng.choice([0, 1, 2]))]) for sequence in (1, 2, 5)]
     found = []
     for place in range(rng.choice([3, 20, 70])):
-        day = date(first + datetime.timedelta(days=place))
+        day = date(first + place * DAY)
         change, changed = rng.choice(["none"] * 6 + ["fewer", "columns", "segment"]), rng.randrange(3)
         for index, (sequence, columns, segments) in enumerate(legs):
             if (change, index) == ("fewer", changed):
@@ -141,13 +141,13 @@ def sequence_records(rng, flight, sequence, first, total, carrier_end):
 
 def data_set(rng):
     """The records of a data set that stands, without serials."""
-    first = datetime.date(2024, 1, 1) + datetime.timedelta(days=rng.randrange(900))
+    first = datetime.date(2024, 1, 1) + rng.randrange(900) * DAY
     total = rng.randrange(20, 400)
     airline = rng.choice(["LX ", "U2 ", "9W ", "SWR"])
     open_ended = rng.random() < 0.3
-    last = first + datetime.timedelta(days=730 if open_ended else total - 1)
-    created = first - datetime.timedelta(days=rng.randrange(200))
-    start = last - datetime.timedelta(days=total - 1)
+    last = first + (730 if open_ended else total - 1) * DAY
+    created = first - rng.randrange(200) * DAY
+    start = last - (total - 1) * DAY
     found = [header(), carrier(airline, date(first), OPEN_END if open_ended else date(last), date(created), rng.choice("UL"))]
     names = {(rng.choice([0, 7, 44, 544, 9999]), rng.choice("   AZ")) for _ in range(rng.randrange(0, 5))}
     flights = [flight_records(rng, airline, number, suffix, (start, total), last) for number, suffix in sorted(names)]
@@ -183,12 +183,12 @@ def laid_out(rng, records):
     return bytes(found)
 
 
+def file_bytes(rng, records):
+    """The bytes of a data set, numbered and laid out."""
+    return laid_out(rng, numbered(rng, records))
+
+
 # ---- one thing broken
-
-def with_column(line, column, text):
-    data = text if isinstance(text, bytes) else text.encode("ascii")
-    return line[: column - 1] + data + line[column - 1 + len(data) :]
-
 
 FIELDS = [("airline", 3, ["BA ", "12 ", "L  ", "lx "]), ("number", 6, ["12A4", "    ", "1 2 "]),
           ("sequence", 12, ["00", "  ", "1A"]), ("variation", 10, ["  ", "A1"]), ("days", 29, ["       ", "7654321", "11     "]),
@@ -239,38 +239,51 @@ def break_bytes(rng, data):
     return kind, b""
 
 
+def changed(rng, records):
+    """The records with some legs changed or gone."""
+    found, gone = [], set()
+    share = rng.choice([0.02, 0.2, 0.7])
+    for line in records:
+        if line[:1] in b"34" and line[1:13] in gone:
+            continue
+        if line[:1] == b"3" and rng.random() < share:
+            if rng.random() < 0.3:
+                gone.add(line[1:13])
+                continue
+            for column, text in rng.sample(leg_columns(rng), rng.choice([1, 1, 3])):
+                line = with_column(line, column, text)
+        elif line[:1] == b"4" and rng.random() < share:
+            line = with_column(line, 40, carried(rng, 155))
+        found.append(line)
+    return found
+
+
 def made(rng, broken):
+    """What is broken, and the bytes of a data set."""
     records = data_set(rng)
-    kind = "nothing"
-    if broken:
-        choice = rng.random()
-        if choice < 0.5:
-            records = numbered(rng, records)
-            kind, records = break_record(rng, records)
-            return kind, laid_out(rng, records)
-        if choice < 0.85:
-            kind, records = break_order(rng, records)
-            return kind, laid_out(rng, numbered(rng, records))
-        kind, data = break_bytes(rng, laid_out(rng, numbered(rng, records)))
-        return kind, data
-    return kind, laid_out(rng, numbered(rng, records))
-
-
-def write_all(count, folder, seed):
-    rng = random.Random(seed)
-    os.makedirs(folder, exist_ok=True)
-    with open(os.path.join(folder, "kinds"), "w", encoding="ascii") as kinds:
-        for number in range(1, count + 1):
-            kind, data = made(rng, number % 2 == 0)
-            with open(os.path.join(folder, f"{number:03}"), "wb") as out:
-                out.write(data)
-            kinds.write(f"{number:03} {kind}\n")
+    choice = rng.random() if broken else None
+    if choice is None:
+        return "nothing", file_bytes(rng, records)
+    if choice < 0.5:
+        kind, records = break_record(rng, numbered(rng, records))
+        return kind, laid_out(rng, records)
+    if choice < 0.85:
+        kind, records = break_order(rng, records)
+        return kind, file_bytes(rng, records)
+    return break_bytes(rng, file_bytes(rng, records))
 
 
 def main():
     if len(sys.argv) not in (3, 4):
         sys.exit(__doc__)
-    write_all(int(sys.argv[1]), sys.argv[2], int(sys.argv[3]) if len(sys.argv) == 4 else 1)
+    rng = random.Random(int(sys.argv[3]) if len(sys.argv) == 4 else 1)
+    os.makedirs(sys.argv[2], exist_ok=True)
+    with open(os.path.join(sys.argv[2], "kinds"), "w", encoding="ascii") as kinds:
+        for number in range(1, int(sys.argv[1]) + 1):
+            kind, data = made(rng, number % 2 == 0)
+            with open(os.path.join(sys.argv[2], f"{number:03}"), "wb") as out:
+                out.write(data)
+            kinds.write(f"{number:03} {kind}\n")
 
 
 if __name__ == "__main__":

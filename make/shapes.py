@@ -1,27 +1,23 @@
 #!/usr/bin/env python3
-"""Measures two programs on shapes that real files have beside that of large.py: shapes.py OURS OTHER [FOLDER] [SHAPE..]
+"""Writes data sets of shapes that real files have beside that of large.py: shapes.py SHAPE FILE [COUNT]
 
 - `dates`: one record a date: 180,000 leg records, 180 of them a flight, of two aircraft types in turn.
 - `weeks`: weekly strips: 180,000 leg records of 15,000 flights in no order, a record for each of four weekdays and of three parts of the
   season, weekday after weekday. Some weekdays have other times.
 - `legs`: long itineraries: 891,000 leg records, of 9,000 flights of leg sequences 1 to 99 over one period.
 - `sequence`: one flight with 238,000 legs of one day: seven leg sequences, each on 34,000 dates, the last date first.
+- `itineraries`: one flight on 4,500 dates, with other times on each.
 
-`tidy` and `check` of each shape run five times with each program, in turn, as in `measure.py`. What the two print has to be the same.
+COUNT is another number of flights, or of the dates of one flight.
 """
 import datetime
-import itertools
-import os
 import random
 import sys
-import tempfile
 
-from chapter7 import carrier, date, days, header, trailer, with_serial
-from measure import best, once
+from chapter7 import DAY, carrier, clock, date, days, header, trailer, weekday_bit, write
 
-RUNS = 5
 FIRST, LAST, CREATED = datetime.date(2025, 3, 30), datetime.date(2025, 10, 25), datetime.date(2025, 2, 1)
-DAY = datetime.timedelta(days=1)
+SEASON, CENTURY = (FIRST, LAST), (datetime.date(2000, 1, 1), datetime.date(2099, 12, 31))
 
 
 def leg_line(flight, sequence, first, last, operates, aircraft="320", variation=1, start=0):
@@ -29,16 +25,15 @@ def leg_line(flight, sequence, first, last, operates, aircraft="320", variation=
     of its leg sequence."""
     suffix, number = divmod(flight, 9999)
     stations = [f"{chr(65 + place // 26)}{chr(65 + place % 26)}X" for place in (sequence, sequence + 1)]
-    minutes = sequence * 13 + start
-    clock = f"{minutes // 60:02}{minutes % 60:02}"
+    time = clock(sequence * 13 + start)
     line = (f"3{' ABCDEFGHIJKLMNOPQRSTUVWXYZ'[suffix]}LX {number + 1:04}{variation:02}{sequence:02}J{first}{last}{operates} "
-            f"{stations[0]}{clock}{clock}+0200  {stations[1]}{clock}{clock}+0200  {aircraft}CY")
+            f"{stations[0]}{time}{time}+0200  {stations[1]}{time}{time}+0200  {aircraft}CY")
     return f"{line:<172}{'C12Y138':<20}00".encode("ascii")
 
 
 def dates(flights=1_000):
     """One record a date."""
-    names = [(date(FIRST + place * DAY), days(1 << (FIRST + place * DAY).weekday())) for place in range(180)]
+    names = [(date(FIRST + place * DAY), days(weekday_bit(FIRST + place * DAY))) for place in range(180)]
     for flight in range(flights):
         for place, (name, operates) in enumerate(names):
             yield leg_line(flight, 1, name, name, operates, "319" if (place + flight) // 45 % 2 else "320")
@@ -65,62 +60,42 @@ def legs(flights=9_000):
             yield leg_line(flight, sequence, date(FIRST), date(LAST), operates)
 
 
-def sequence():
+def sequence(count=34_000):
     """One flight with many dates."""
     first = datetime.date(2000, 1, 3)
-    names = [(date(first + place * DAY), days(1 << (first + place * DAY).weekday())) for place in reversed(range(34_000))]
+    names = [(date(first + place * DAY), days(weekday_bit(first + place * DAY))) for place in reversed(range(count))]
     for number in range(1, 8):
         for name, operates in names:
             yield leg_line(0, number, name, name, operates)
 
 
+def itineraries(count=4_500, later=0):
+    """One flight with another itinerary on each date: no two dates have the same times."""
+    for place in range(count):
+        day = CENTURY[0] + place * DAY
+        line = leg_line(0, 1, date(day), date(day), days(weekday_bit(day))).decode("ascii")
+        start, end = clock(place % 1_440), clock((place // 1_440 * 17 + place + 60 + later) % 1_440)
+        yield f"{line[:39]}{start}{start}{line[47:57]}{end}{end}{line[65:]}".encode("ascii")
+
+
 # The leg records of each shape, and the season of its carrier.
-SHAPES = {
-    "dates": (dates, FIRST, LAST),
-    "weeks": (weeks, FIRST, LAST),
-    "legs": (legs, FIRST, LAST),
-    "sequence": (sequence, datetime.date(2000, 1, 1), datetime.date(2099, 12, 31)),
-}
+SHAPES = {"dates": (dates, SEASON), "weeks": (weeks, SEASON), "legs": (legs, SEASON), "sequence": (sequence, CENTURY),
+          "itineraries": (itineraries, CENTURY)}
 
 
-def write(path, lines, first, last):
-    with open(path, "wb") as file:
-        serial = 0
-        for line in itertools.chain((header(), carrier("LX ", first, last, date(CREATED))), lines):
-            serial += 1
-            file.write(with_serial(line, serial) + b"\n")
-        file.write(with_serial(trailer("LX ", date(CREATED), serial), serial + 1) + b"\n")
-
-
-def compare(command, name, programs, folder):
-    """The best of each program, run in turn; what they print has to be the same."""
-    runs = [[] for _ in programs]
-    for _ in range(RUNS):
-        printed = []
-        for program, found in zip(programs, runs):
-            found.append(once(program, [command, name], folder))
-            with open(os.path.join(folder, "out"), "rb") as out:
-                printed.append(out.read())
-        assert printed[0] == printed[1], f"{command} {name}: the programs differ"
-    return [best(found) for found in runs]
+def records(shape, *counts, change=iter):
+    """The records of a data set of this shape, with its leg records changed."""
+    lines, (first, last) = SHAPES[shape]
+    yield header()
+    yield carrier("LX ", date(first), date(last), date(CREATED))
+    yield from change(lines(*counts))
+    yield trailer("LX ", date(CREATED), 0)
 
 
 def main():
-    if len(sys.argv) < 3:
+    if len(sys.argv) not in (3, 4) or sys.argv[1] not in SHAPES:
         sys.exit(__doc__)
-    programs = [os.path.abspath(path) for path in sys.argv[1:3]]
-    folder = os.path.abspath(sys.argv[3]) if len(sys.argv) > 3 else tempfile.mkdtemp()
-    os.makedirs(folder, exist_ok=True)
-    print("shape     command   ours s  other s  ratio   ours MiB  other MiB  ratio")
-    for shape in sys.argv[4:] or SHAPES:
-        lines, first, last = SHAPES[shape]
-        name = f"{shape}.ssim"
-        if not os.path.exists(os.path.join(folder, name)):
-            write(os.path.join(folder, name), lines(), date(first), date(last))
-        for command in ("tidy", "check"):
-            (seconds, peak), (other_seconds, other_peak) = compare(command, name, programs, folder)
-            print(f"{shape:9} {command:7} {seconds:8.3f} {other_seconds:8.3f} {seconds / other_seconds:6.2f} "
-                  f"{peak / 2**20:10.1f} {other_peak / 2**20:10.1f} {peak / other_peak:6.2f}", flush=True)
+    print(f"{sys.argv[2]}: {write(sys.argv[2], records(sys.argv[1], *map(int, sys.argv[3:])))} records")
 
 
 if __name__ == "__main__":

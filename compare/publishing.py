@@ -1,18 +1,15 @@
 """What `publish` has to say, by a plain model over lists of dates.
 
-A timetable has for each flight its itinerary on each date: a tuple of legs, each with its sequence, the columns of its leg record and the
-tails of its segment records. `actions` are the sub-messages that make of the itinerary of a date another one, or None if no messages can:
-what messages can make is no flight, a whole new flight, or the flight of before with other equipment and other times. `planned` has the
-sub-messages of all flights and the dates that cannot be said, `texts_of` the texts, and `unsaid_lines` the printed lines. Nothing here
-reads a message.
+The timetables are those of flight_dates.py. `actions` are the sub-messages that make of the itinerary of a date another one, or None if
+no messages can: what messages can make is no flight, a whole new flight, or the flight of before with other equipment and other times.
+`planned` has the sub-messages of all flights and the dates that cannot be said, `texts_of` the texts, and `unsaid_lines` the printed lines.
+Nothing here reads a message.
 """
 import collections
-import datetime
 import re
 
-from chapter7 import FILL, date
-from flight_dates import cover, dates_of, period_line
-from messages import day_of
+from chapter7 import date
+from flight_dates import cover, period_line
 
 BLANK_FIELDS = [(53, 54), (71, 72), (96, 127), (129, 172)]
 EQUIPMENT_FIELDS = [(14, 14), (73, 75), (76, 95), (173, 192)]
@@ -21,55 +18,6 @@ STATION_FIELDS = [(37, 39), (55, 57)]
 VARIATION_FIELDS = [(48, 52), (66, 70)]
 FIELDS = sorted(BLANK_FIELDS + EQUIPMENT_FIELDS + TIME_FIELDS + STATION_FIELDS + VARIATION_FIELDS)
 MOST_SUBS, MOST_BYTES, MOST_LEGS, MOST_SEGMENTS = 250, 65_536, 20, 99
-DAY = datetime.timedelta(days=1)
-
-
-class Leg(collections.namedtuple("Leg", "sequence columns tails")):
-    """A leg on a date. Its columns are the 194 first ones of a record, blank where no leg has them."""
-
-    def at(self, field):
-        first, last = field
-        return self.columns[first - 1 : last]
-
-    def fields(self, fields):
-        return [self.at(field) for field in fields]
-
-
-class Timetable:
-    """The airline, the time mode, and for each flight, by number and suffix, its itinerary on each date: read from an export."""
-
-    def __init__(self, data):
-        records = [line.decode("latin-1") for line in data.split(b"\n") if line and line != FILL]
-        carrier = next(line for line in records if line[0] == "2")
-        self.mode, self.airline, self.flights = carrier[1], carrier[2:5].strip(), {}
-        pieces, legs = [], []
-        for record in records:
-            if record[0] == "3":
-                if not pieces or pieces[-1][0][:11] != record[:11]:
-                    pieces.append((record, []))
-                legs = pieces[-1][1]
-                legs.append((int(record[11:13]), " " * 13 + record[13] + " " * 22 + record[36:127] + " " + record[128:194], []))
-            elif record[0] == "4":
-                legs[-1][2].append(record[14:27] + record[28:194])
-        for record, legs in pieces:
-            itinerary = tuple(Leg(sequence, columns, tuple(tails)) for sequence, columns, tails in legs)
-            days = self.flights.setdefault((int(record[5:9]), record[1]), {})
-            days.update((day, itinerary) for day in dates_of(record))
-
-    def designator(self, flight):
-        number, suffix = flight
-        return f"{self.airline}{number:03}{suffix.strip()}"
-
-
-class Stations:
-    """The rows of a station table."""
-
-    def __init__(self, lines):
-        self.rows = [(line[:3], day_of(line[4:11]), day_of(line[12:19]), line[20:25]) for line in lines]
-
-    def at(self, station, day):
-        """The UTC variation of a station on a day: that of the first row that holds it."""
-        return next((row[3] for row in self.rows if row[0] == station and row[1] <= day <= row[2]), None)
 
 
 # ---- what the lines of a message can say
@@ -93,7 +41,7 @@ def leg_line(leg):
         return None
     ends = []
     for field, time, customer, days in ((37, 39), aircraft, passenger, later[0]), ((55, 57), arrival, off, later[1]):
-        ends.append(leg.at(field) + time + ("/" + days if days != "0" else "") + ("/" + customer if customer != time else ""))
+        ends.append(leg.at(*field) + time + ("/" + days if days != "0" else "") + ("/" + customer if customer != time else ""))
     return " ".join(ends)
 
 
@@ -105,8 +53,8 @@ def segment_line(tail, legs, place):
     if not text or any(not " " <= byte <= "~" for byte in text):
         return None
     for first, leg in enumerate(legs):
-        last = next((last for last in range(first, len(legs)) if legs[last].at((55, 57)) == off), None)
-        if leg.at((37, 39)) == board and last is not None:
+        last = next((last for last in range(first, len(legs)) if legs[last].at(55, 57) == off), None)
+        if leg.at(37, 39) == board and last is not None:
             fits = (first, letters) == (place, chr(65 + first) + chr(66 + last))
             return f"{board}{off} {int(identifier)}/{text}" if fits else None
     return None
@@ -116,7 +64,7 @@ def whole_lines(legs, day, stations):
     """The lines of a NEW or RPL that gives the legs on a day, or None if there are none."""
     segments = [segment_line(tail, legs, place) for place, leg in enumerate(legs) for tail in leg.tails]
     lines = [equipment_line(legs[0])] + [leg_line(leg) for leg in legs] + segments
-    if [leg.sequence for leg in legs] != list(range(1, len(legs) + 1)) or len(legs) > MOST_LEGS or len(segments) > MOST_SEGMENTS:
+    if not is_counted(legs) or len(legs) > MOST_LEGS or len(segments) > MOST_SEGMENTS:
         return None
     for leg in legs:
         if leg.fields(EQUIPMENT_FIELDS) != legs[0].fields(EQUIPMENT_FIELDS) or "".join(leg.fields(BLANK_FIELDS)).strip(" "):
@@ -124,6 +72,11 @@ def whole_lines(legs, day, stations):
         if leg.fields(VARIATION_FIELDS) != [stations.at(station, day) for station in leg.fields(STATION_FIELDS)]:
             return None
     return None if None in lines else lines
+
+
+def is_counted(legs):
+    """Whether the leg sequences are 1, 2, .."""
+    return [int(leg.sequence) for leg in legs] == list(range(1, len(legs) + 1))
 
 
 def routes(legs):
@@ -175,27 +128,27 @@ def name_of(field):
 def bad_equipment(legs):
     """For each leg the equipment fields that no equipment line gives, or not with those of the first leg."""
     allowed = dict(zip(EQUIPMENT_FIELDS, ["[A-Z]", "[A-Z0-9]{3}", "[A-Z]* *", "[A-Z0-9]* *"]))
-    return [[field for field in EQUIPMENT_FIELDS if not re.fullmatch(allowed[field], leg.at(field)) or leg.at(field) != legs[0].at(field)]
+    return [[field for field in EQUIPMENT_FIELDS if not re.fullmatch(allowed[field], leg.at(*field)) or leg.at(*field) != legs[0].at(*field)]
             for leg in legs]
 
 
 def bad_times(leg):
     """The time fields of a leg that no leg line gives."""
-    return [field for field in TIME_FIELDS if not re.fullmatch("[0-7]{2}|[0-9]{4}", leg.at(field))]
+    return [field for field in TIME_FIELDS if not re.fullmatch("[0-7]{2}|[0-9]{4}", leg.at(*field))]
 
 
 def reason(old, new, day, stations):
     """The words of an unsaid date. EQT and TIM are enough for legs of the same route, whatever their leg sequences are."""
     if old and routes(old) == routes(new):
         return " ".join(part_words(old, new))
-    if [leg.sequence for leg in new] != list(range(1, len(new) + 1)) or len(new) > MOST_LEGS:
+    if not is_counted(new) or len(new) > MOST_LEGS:
         return "sequence"
     return " ".join(whole_words(new, day, stations))
 
 
 def leg_words(leg, fields, words):
     found = [name_of(field) for field in sorted(fields)] + words
-    return [f"{leg.sequence:02}", *found] if found else []
+    return [leg.sequence, *found] if found else []
 
 
 def part_words(old, new):
@@ -204,7 +157,7 @@ def part_words(old, new):
     pairs, found = [route[1:] for route in routes(new)], []
     for place, (one, two, equipment) in enumerate(zip(old, new, bad_equipment(new))):
         retimed = one.fields(TIME_FIELDS) != two.fields(TIME_FIELDS)
-        fields = [field for field in VARIATION_FIELDS + BLANK_FIELDS if one.at(field) != two.at(field)]
+        fields = [field for field in VARIATION_FIELDS + BLANK_FIELDS if one.at(*field) != two.at(*field)]
         fields += (equipment if equipped else []) + (bad_times(two) if retimed else [])
         words = ["segments"] if one.tails != two.tails else []
         words += ["second"] if retimed and pairs[place] in pairs[:place] else []
@@ -216,8 +169,8 @@ def whole_words(new, day, stations):
     """For each leg what NEW and RPL do not give."""
     found, segments = [], 0
     for place, (leg, equipment) in enumerate(zip(new, bad_equipment(new))):
-        fields = [field for field in BLANK_FIELDS if leg.at(field).strip(" ")] + equipment + bad_times(leg)
-        fields += [field for field, station in zip(VARIATION_FIELDS, leg.fields(STATION_FIELDS)) if leg.at(field) != stations.at(station, day)]
+        fields = [field for field in BLANK_FIELDS if leg.at(*field).strip(" ")] + equipment + bad_times(leg)
+        fields += [field for field, station in zip(VARIATION_FIELDS, leg.fields(STATION_FIELDS)) if leg.at(*field) != stations.at(station, day)]
         segments += len(leg.tails)
         bad = leg.tails and segments > MOST_SEGMENTS or any(segment_line(tail, new, place) is None for tail in leg.tails)
         found += leg_words(leg, fields, ["segments"] if bad else [])

@@ -5,6 +5,7 @@ allow: a builder takes the text of each field as it is to stand.
 """
 import datetime
 
+DAY = datetime.timedelta(days=1)
 MONTHS = "JAN FEB MAR APR MAY JUN JUL AUG SEP OCT NOV DEC".split()
 FILL = b"0" * 200
 TITLE = "AIRLINE STANDARD SCHEDULE DATA SET"
@@ -24,6 +25,16 @@ def record(*fields):
 def date(day):
     """DDMMMYY of a datetime.date."""
     return f"{day.day:02}{MONTHS[day.month - 1]}{day.year % 100:02}"
+
+
+def day_of(text):
+    """The datetime.date of DDMMMYY."""
+    return datetime.date(2000 + int(text[5:7]), MONTHS.index(text[2:5]) + 1, int(text[:2]))
+
+
+def clock(minutes):
+    """The time of day of so many minutes after a midnight."""
+    return f"{minutes // 60 % 24:02}{minutes % 60:02}"
 
 
 def days(mask):
@@ -61,8 +72,44 @@ def trailer(airline, released, check, code="E"):
     return record((1, "5"), (3, airline), (6, released), (188, f"{check:06}"), (194, code))
 
 
+def with_column(line, column, text):
+    """The record with other bytes from a column on."""
+    data = text if isinstance(text, bytes) else text.encode("latin-1")
+    return line[: column - 1] + data + line[column - 1 + len(data) :]
+
+
 def with_serial(line, serial):
     return line[:194] + f"{serial:06}".encode("ascii")
+
+
+def with_serials(lines):
+    """The records of a data set with their serials and the check reference."""
+    for serial, line in enumerate(lines, 1):
+        if line[:1] == b"5":
+            line = with_column(line, 188, f"{serial - 1:06}")
+        yield with_serial(line, serial)
+
+
+def data_set(lines):
+    """The bytes of a data set, each record with its serial and LF after it."""
+    return b"".join(line + b"\n" for line in with_serials(lines))
+
+
+def write(path, lines):
+    """Writes a data set, however many records it has. Returns their number."""
+    count = 0
+    with open(path, "wb") as file:
+        for count, line in enumerate(with_serials(lines), 1):
+            file.write(line + b"\n")
+    return count
+
+
+def plain_season():
+    """The records of one flight on each day of a summer."""
+    columns = [(37, "ZRH"), (40, "05450545"), (48, "+0200"), (55, "LHR"), (58, "07000700"), (66, "+0100"), (73, "320"),
+               (76, "CY"), (173, "C12Y138"), (193, "00")]
+    return [header(), carrier("LX ", "30MAR25", "25OCT25", "01FEB25"),
+            leg((" ", "LX ", "0544"), "01", "01", "30MAR25", "25OCT25", "1234567", columns), trailer("LX ", "01FEB25", 3)]
 
 
 def blocks_of_season(rng, first, total, count):
