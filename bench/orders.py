@@ -16,6 +16,7 @@ messages in order, the last column is the time of a message against that of the 
 import filecmp
 import os
 import random
+import re
 import resource
 import subprocess
 import sys
@@ -57,12 +58,20 @@ class Report:
         print(f"| {title} | {count:,} | {spent:.3f} | {spent / sorted_spent:.2f} | {spent / count / self.first[title]:.2f} |", flush=True)
 
 
-def measure_receive(ours, folder, count, report):
+def measure(report, folder, command, count, numbers, words_of):
+    """The rows of a command line, which is made of an order and of the numbers in this order."""
     spent = {}
-    for order, numbers in in_orders(range(count)).items():
+    for order, each in in_orders(numbers).items():
+        spent[order] = least(words_of(order, each), folder)
+        report.row(f"`{command}`, {order}", count, spent[order], spent["sorted"])
+
+
+def measure_receive(ours, folder, count, report):
+    def words_of(order, numbers):
         write_mailbox(os.path.join(folder, order), map(sample_text, numbers))
-        spent[order] = least([ours, "receive", "empty", f"{order}.desk", order], folder)
-        report.row(f"`receive`, {order}", count, spent[order], spent["sorted"])
+        return [ours, "receive", "empty", f"{order}.desk", order]
+
+    measure(report, folder, "receive", count, range(count), words_of)
     for order in ORDERS[1:]:
         if not filecmp.cmp(*[os.path.join(folder, f"{name}.desk") for name in ("sorted", order)], shallow=False):
             sys.exit(f"{order}: another desk file")
@@ -73,18 +82,14 @@ def measure_take(ours, folder, count, report):
     for number in range(count):
         with open(os.path.join(folder, f"{number:x}"), "w") as file:
             file.write(sample_text(number))
-    spent = {}
-    for order, numbers in in_orders(range(count)).items():
-        spent[order] = least([ours, "take", "empty", "taken.desk", *[f"{number:x}" for number in numbers]], folder)
-        report.row(f"`take`, {order}", count, spent[order], spent["sorted"])
+    measure(report, folder, "take", count, range(count),
+            lambda _, numbers: [ours, "take", "empty", "taken.desk", *[f"{number:x}" for number in numbers]])
 
 
 def measure_withdraw(ours, folder, count, report):
-    spent = {}
-    for order, numbers in in_orders(range(0, count, 20)).items():
-        words = [f"SSM {reference(number)[:5]}27 {reference(number)[5:10]} {reference(number)[11:]}" for number in numbers]
-        spent[order] = least([ours, "withdraw", "sorted.desk", "less.desk", *words], folder)
-        report.row(f"`withdraw`, {order}", count, spent[order], spent["sorted"])
+    names = {number: re.sub("(.{5})(.{5}).(.*)", r"SSM \g<1>27 \2 \3", reference(number)) for number in range(0, count, 20)}
+    measure(report, folder, "withdraw", count, names,
+            lambda _, numbers: [ours, "withdraw", "sorted.desk", "less.desk", *[names[number] for number in numbers]])
 
 
 def measure_merge(ours, folder, count, report):

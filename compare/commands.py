@@ -15,7 +15,7 @@ import small
 from chapter7 import DAY, carrier, date, header, plain_season, trailer, with_column
 from room import Answer
 
-KINDS = ["sequence"]
+KINDS, ONLY_NAMED = ["sequence"], ["many records"]
 COMMANDS = ["check", "tidy", "start", "take", "merge", "show", "findings", "export", "rehearse"]
 WEIGHTS = [4, 4, 12, 30, 14, 10, 8, 8, 10]
 DESKS = ["d1", "d2", "d3"]

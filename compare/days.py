@@ -8,7 +8,7 @@ import messages
 import small
 from chapter7 import carrier, date, with_column
 from flight_dates import Timetable, board, calendar, differing, listed, listed_dates, page_lines, rows
-from room import Answer
+from room import Answer, said
 
 KINDS = ["changed", "changed", "desk", "desk", "desks", "tidied", "other", "other carrier"]
 OPTIONS = {(): listed, ("--dates",): listed_dates, ("--csv",): rows,
@@ -28,9 +28,7 @@ def desk(rng, room, season, name):
 def make(rng, room, kind):
     """Writes the files FROM and TO, and returns the season of FROM."""
     records = small.data_set(rng)
-    season = messages.Season(records)
-    room.write("FROM", small.file_bytes(rng, records))
-    room.write("stations", messages.written(messages.station_rows(rng, season)))
+    season, _ = room.write_base(rng, "FROM", records)
     if kind == "changed":
         room.write("TO", small.file_bytes(rng, small.changed(rng, records)))
     elif kind == "tidied":
@@ -45,7 +43,7 @@ def make(rng, room, kind):
         desk(rng, room, season, "TO")
         if kind == "desks":
             desk(rng, room, season, "desk")
-            room.write("FROM", room.read("desk"))
+            room.copy("desk", "FROM")
     return season
 
 
@@ -53,7 +51,7 @@ def make(rng, room, kind):
 
 def of_lines(room, words, lines):
     """What is compared of a command that has to print these lines."""
-    return " ".join(words), room(*words), Answer(0, "".join(line + "\n" for line in lines).encode("latin-1"), "")
+    return " ".join(words), room(*words), said(lines)
 
 
 def of_page(room, lines):

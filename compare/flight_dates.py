@@ -106,40 +106,37 @@ def is_marked(leg, others):
     return any(other != leg and other.line == leg.line for other in others)
 
 
+def chosen(table, flights):
+    """All flights, or those given, each as it is printed and with its dates."""
+    for flight in sorted(set(flights)) if flights is not None else table.flights:
+        yield table.designator(flight), table.flights.get(flight, {})
+
+
 def listed(table, flights=None):
     """The lines of `list`, of all flights or of those given."""
     lines = []
-    for flight in sorted(set(flights)) if flights is not None else table.flights:
-        days = table.flights.get(flight, {})
-        if not days:
-            lines.append(f"{table.designator(flight)} no flight")
+    for name, days in chosen(table, flights):
+        lines += [] if days else [f"{name} no flight"]
         all_legs = {leg for legs in days.values() for leg in legs}
         for period, day in divided(days):
-            lines.append(period_line(table.designator(flight), period))
-            lines += [f"  {leg.line}" + " *" * is_marked(leg, all_legs) for leg in days[day]]
+            lines += [period_line(name, period), *(f"  {leg.line}" + " *" * is_marked(leg, all_legs) for leg in days[day])]
     return lines
 
 
 def listed_dates(table, flights=None):
     """The lines of `list --dates`."""
     lines = []
-    for flight in sorted(set(flights)) if flights is not None else table.flights:
-        days = table.flights.get(flight, {})
-        if not days:
-            lines.append(f"{table.designator(flight)} no flight")
-        lines += [f"{table.designator(flight)} {date(day)} {leg.line}" for day in sorted(days) for leg in days[day]]
+    for name, days in chosen(table, flights):
+        lines += [f"{name} {date(day)} {leg.line}" for day in sorted(days) for leg in days[day]] or [f"{name} no flight"]
     return lines
 
 
 def rows(table, flights=None, dates=False):
     """The lines of `list --csv`, with or without `--dates`."""
     lines = [HEADER]
-    for flight in sorted(set(flights)) if flights is not None else table.flights:
-        days = table.flights.get(flight, {})
-        periods = [((day, day, {day.weekday()}), day) for day in sorted(days)]
-        if not dates:
-            periods = divided(days)
-        lines += [row(table.designator(flight), period, leg) for period, day in periods for leg in days[day]]
+    for name, days in chosen(table, flights):
+        periods = [((day, day, {day.weekday()}), day) for day in sorted(days)] if dates else divided(days)
+        lines += [row(name, period, leg) for period, day in periods for leg in days[day]]
     return lines
 
 

@@ -8,7 +8,7 @@ import re
 
 import small
 from chapter7 import FILL, carrier, header, with_serial
-from room import Answer
+from room import said
 
 KINDS = ["broken"]
 REFUSED = re.compile(r"refused (\d+ \w+ record (\d+)(?: column \d+)?)\n")
@@ -60,7 +60,7 @@ def numbered(line, number):
 
 
 def expected(peer, data):
-    """What `problems` has to print."""
+    """The lines that `problems` has to print."""
     places, cut = places_of(data)
     blocks = [data[at : at + 200] for at in places]
     count, lines, left = sum(block != FILL for block in blocks), [], bytearray(data)
@@ -79,7 +79,7 @@ def expected(peer, data):
             lines += [numbered(found, k) for k, found in alone if found]
             lines += [f"10 Short record {len(blocks) + 1}"] if cut else []
             break
-    return "".join(line + "\n" for line in lines) + f"records {count} problems {len(lines)}\n"
+    return [*lines, f"records {count} problems {len(lines)}"]
 
 
 def broken(rng):
@@ -105,5 +105,5 @@ def make(rng, room, _):
 
 def compared(_, room, data):
     wanted = expected(room.peer, data)
-    room.counts["problems"] += wanted.count("\n") - 1
-    yield "problems", room("problems", "data"), Answer(0, wanted.encode("latin-1"), "")
+    room.counts["problems"] += len(wanted) - 1
+    yield "problems", room("problems", "data"), said(wanted)

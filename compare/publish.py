@@ -16,7 +16,7 @@ from chapter7 import DAY, date, day_of, with_column
 from flight_dates import Timetable
 from plain_flights import Plain
 from publishing import Reference
-from room import Answer
+from room import Answer, said
 
 KINDS = ["more", "more", "other", "other", "another", "columns", "columns", "filled", "plain", "plain", "plain", "plain desk",
          "directed", "directed", "directed more", "many", "equal"]
@@ -56,7 +56,7 @@ def make_plain(rng, room, kind):
     start(room, "season", plain.rows, "FROM")
     season = messages.Season(records)
     if kind == "directed more":
-        room.write("TO", room.read("FROM"))
+        room.copy("FROM", "TO")
         bring(rng, room, season, "TO", 9)
         return kind, season, plain.rows
     if kind == "many" and rng.random() < 0.5:
@@ -81,18 +81,18 @@ def make(rng, room, kind):
     records = small.data_set(rng)
     if kind == "filled":
         records = with_terminals(rng, records)
-    season = messages.Season(records)
-    rows = messages.station_rows(rng, season)
-    room.write("season", small.file_bytes(rng, records))
-    start(room, "season", rows, "FROM")
-    start(room, "season", rows, "TO")
+    season, rows = room.write_base(rng, "season", records)
+    room("start", "season", "stations", "FROM")
+    room.copy("FROM", "TO")
     if kind == "more":
         bring(rng, room, season, "FROM", 4)
-        room.write("TO", room.read("FROM"))
+        room.copy("FROM", "TO")
         bring(rng, room, season, "TO", 4)
     elif kind == "equal":
         bring(rng, room, season, "FROM", 4)
-        room.write("TO", room.read("FROM") if rng.random() < 0.5 else room("export", "FROM").out)
+        room.copy("FROM", "TO")
+        if rng.random() < 0.5:
+            room.write("TO", room("export", "FROM").out)
     else:
         bring(rng, room, season, "FROM", rng.choice([0, 4]))
         make_other(rng, room, kind, records, season)
@@ -106,7 +106,7 @@ def make_other(rng, room, kind, records, season):
         start(room, "wanted", messages.station_rows(rng, season), "TO")
     elif kind == "columns" or kind == "filled" and rng.random() < 0.5:
         room.write("TO", small.file_bytes(rng, small.changed(rng, records)))
-    if kind in ("other", "another") or kind == "filled" and room.read("TO")[:9] == b"SSIMDESK ":
+    if kind in ("other", "another") or kind == "filled" and room.is_desk("TO"):
         bring(rng, room, season, "TO", 4)
 
 
@@ -131,16 +131,6 @@ def greatest_held(room, name):
     kind, day, group, serial, origin = parts.groups()
     order = day_of(day), int(group), int(serial), kind == "ASM", origin or ""
     return order, parts.group(0).rsplit(" ", 2)[0]
-
-
-def expanded(lines, first_word):
-    """The dates of the lines of periods: {flight: [dates]}."""
-    found = collections.defaultdict(list)
-    for words in (line.split() for line in lines):
-        flight, first, last, weekdays = words[first_word : first_word + 4]
-        first, last = day_of(first), day_of(last)
-        found[flight] += [day for day in (first + place * DAY for place in range((last - first).days + 1)) if str(day.isoweekday()) in weekdays]
-    return {flight: sorted(dates) for flight, dates in found.items()}
 
 
 class Publication:
@@ -220,14 +210,9 @@ def count_of(period):
     return sum((first + place * DAY).weekday() in weekdays for place in range((last - first).days + 1))
 
 
-def said(lines):
-    """The answer of a command that prints these lines."""
-    return Answer(0, "".join(line + "\n" for line in lines).encode("latin-1"), "")
-
-
 def compared(rng, room, case):
     kind, season, rows = case
-    exports = [room.exported(name) if room.read(name) else None for name in ("FROM", "TO")]
+    exports = [room.exported(name) for name in ("FROM", "TO")]
     if None in exports:
         room.counts["not exported"] += 1
         return

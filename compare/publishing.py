@@ -10,6 +10,7 @@ import re
 
 from chapter7 import date
 from flight_dates import cover, period_line
+from messages import written
 
 BLANK_FIELDS = [(53, 54), (71, 72), (96, 127), (129, 172)]
 EQUIPMENT_FIELDS = [(14, 14), (73, 75), (76, 95), (173, 192)]
@@ -261,4 +262,4 @@ def texts_of(table, subs, reference):
     texts += [(lines, count)] if count else []
     if reference.group + len(texts) - 1 > 99_999:
         return None
-    return [("".join(line + "\n" for line in lines).encode("latin-1"), count) for lines, count in texts]
+    return [(written(lines), count) for lines, count in texts]

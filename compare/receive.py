@@ -10,7 +10,7 @@ import collections
 
 import messages
 import small
-from room import Answer
+from room import said
 
 KINDS = ["desk"]
 ORDERS, TEXTS = 50, 10
@@ -121,16 +121,13 @@ def of_order(rng, room, start, texts):
     room.write("back", b"")
     answer = room("receive", "--refused", "back", "received.desk", "received.desk", *names)
     back = b"".join(b"\n".join(lines_of(text) + [b"NNNN", b""]) for text, said in zip(tried, answers) if said.startswith("refused"))
-    return [("receive", answer, Answer(0, "".join(line + "\n" for line in expected).encode("latin-1"), "")),
+    return [("receive", answer, said(expected)),
             ("desk file", room.read("received.desk"), room.read("taken.desk")), ("refused texts", room.read("back"), back)], answers
 
 
 def make(rng, room, _):
     """The bytes of the desk, and the texts."""
-    records = small.data_set(rng)
-    season = messages.Season(records)
-    room.write("season", small.file_bytes(rng, records))
-    room.write("stations", messages.written(messages.station_rows(rng, season)))
+    season, _ = room.write_base(rng, "season", small.data_set(rng))
     room("start", "season", "stations", "start.desk")
     return room.read("start.desk"), texts_of(rng, season)
 

@@ -1,9 +1,18 @@
 """A folder in which a program runs, and beside it the folder of another program."""
 import collections
 import os
+import shutil
 import subprocess
 
+import small
+from messages import Season, station_rows, written
+
 Answer = collections.namedtuple("Answer", "status out err")
+
+
+def said(lines):
+    """The answer of a command that prints these lines."""
+    return Answer(0, written(lines), "")
 
 
 class Room:
@@ -42,7 +51,23 @@ class Room:
         names = sorted(os.path.relpath(path, self.folder) for path in paths)
         return {name: self.read(name) for name in names}
 
+    def copy(self, name, new):
+        """Copies a file, if it is there."""
+        if os.path.isfile(self.path(name)):
+            shutil.copyfile(self.path(name), self.path(new))
+
+    def is_desk(self, name):
+        return (self.read(name) or b"").startswith(b"SSIMDESK ")
+
     def exported(self, name):
         """The timetable in a desk file or a data set as a data set, or None if it cannot be exported."""
-        answer = self("export" if self.read(name)[:9] == b"SSIMDESK " else "tidy", name)
+        answer = self("export" if self.is_desk(name) else "tidy", name)
         return answer.out if answer.status == 0 else None
+
+    def write_base(self, rng, name, records):
+        """Writes a data set, and the file `stations`. Returns what messages can name, and the rows of the stations."""
+        season = Season(records)
+        self.write(name, small.file_bytes(rng, records))
+        rows = station_rows(rng, season)
+        self.write("stations", written(rows))
+        return season, rows

@@ -84,6 +84,13 @@ def main():
     words = parser.parse_intermixed_args()
     if (words.peer is not None) != (words.model in WITH_PEER):
         parser.error(f"{words.model} is compared {'with' if words.peer is None else 'without'} PEER")
+    model = importlib.import_module(words.model)
+    kinds = sorted({*model.KINDS, *getattr(model, "ONLY_NAMED", ())})
+    if words.kind not in [None, *kinds]:
+        parser.error(f"the kinds of {words.model} are: {', '.join(kinds)}")
+    for program in filter(None, (words.program, words.peer)):
+        if not os.access(program, os.X_OK):
+            parser.error(f"{program} is no program")
     # In memory, if there is such a folder, since a desk file is synced whenever it is kept.
     words.folder = tempfile.mkdtemp(prefix="compare-", dir="/dev/shm" if os.access("/dev/shm", os.W_OK) else None)
     failed = run(words)

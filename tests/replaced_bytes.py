@@ -18,15 +18,15 @@ The last line is 'N passed, M failed'.
 """
 import os
 import re
-import subprocess
 import sys
 import tempfile
 
 TOP = os.path.dirname(os.path.dirname(os.path.abspath(__file__)))
-sys.path.insert(0, os.path.join(TOP, "make"))
+sys.path[:0] = [os.path.join(TOP, "make"), os.path.join(TOP, "compare")]
 
 from cases import vectors
 from chapter7 import data_set, plain_season
+from room import Room
 from small_runs import fast_folder
 
 TEXT = b"SSM\nUTC\n01JUN00001E001\nCNL\nLX544\n01JUL25 07JUL25 2\n"
@@ -55,35 +55,20 @@ FIELDS = {
 # Bytes that no field may have, and bytes that only a carried one may have.
 NEVER_VALID, NOT_ASCII = (31, 127), (128, 255)
 
-REFUSED_DATA_SET = rb"refused (1[012]|3[0-8]) [A-Za-z]+ record \d+( column \d+)?\n|refused (50 Variations flight \S+|51 Records)\n"
-REFUSED_TEXT = rb"refused 2[0-9] [A-Za-z]+ line \d+\n|refused 4[0-3] [A-Za-z]+ sub \d+\n"
-REFUSED_SCRIPT = rb"refused (63 Script line \d+|91 File .+)\n"
+REFUSED_DATA_SET = r"refused (1[012]|3[0-8]) [A-Za-z]+ record \d+( column \d+)?\n|refused (50 Variations flight \S+|51 Records)\n"
+REFUSED_TEXT = r"refused 2[0-9] [A-Za-z]+ line \d+\n|refused 4[0-3] [A-Za-z]+ sub \d+\n"
+REFUSED_SCRIPT = r"refused (63 Script line \d+|91 File .+)\n"
 
 
-def run(program, folder, *words):
-    done = subprocess.run([program, *words], cwd=folder, capture_output=True, timeout=60, check=False)
-    return done.returncode, done.stdout, done.stderr
-
-
-def write(folder, name, data):
-    with open(os.path.join(folder, name), "wb") as file:
-        file.write(data)
-
-
-def read(folder, name):
-    with open(os.path.join(folder, name), "rb") as file:
-        return file.read()
-
-
-def small_files(program, folder):
+def small_files(room):
     """The files, each with what is to be said of it and the places that are altered."""
     season = data_set(plain_season())
     for name, data in ("season", season), ("none", b""), ("rows", ROWS), ("text", TEXT):
-        write(folder, name, data)
-    run(program, folder, "start", "season", "none", "desk")
-    run(program, folder, "start", "season", "rows", "sender")
-    run(program, folder, "take", "desk", "held", "text")
-    desk, held = read(folder, "desk"), read(folder, "held")
+        room.write(name, data)
+    room("start", "season", "none", "desk")
+    room("start", "season", "rows", "sender")
+    room("take", "desk", "held", "text")
+    desk, held = room.read("desk"), room.read("held")
     assert [len(desk), len(held)] == [848, 907]
     same = len(os.path.commonprefix([desk, held]))
     whole = [(season, is_data_set), *((text, is_text) for text in [TEXT, *OTHER_TEXTS]), (SCRIPT, is_script), (held, is_desk)]
@@ -101,53 +86,53 @@ def altered(data, places):
             yield f"byte {byte} at {place}", data[:place] + bytes([byte]) + data[place + 1 :]
 
 
-def is_data_set(program, folder):
+def is_data_set(room):
     """Whether the file is refused as a data set, or tidied to what is tidied to itself."""
-    status, tidied, errors = run(program, folder, "tidy", "altered")
+    status, tidied, errors = room("tidy", "altered")
     if status == 1:
         is_refused = tidied == b"" and re.fullmatch(REFUSED_DATA_SET, errors) is not None
-        return is_refused and run(program, folder, *PUBLISH) == (1, b"", errors)
-    write(folder, "tidied", tidied)
-    return status == 0 and run(program, folder, "tidy", "tidied") == (0, tidied, b"") and is_published(program, folder)
+        return is_refused and room(*PUBLISH) == (1, b"", errors)
+    room.write("tidied", tidied)
+    return status == 0 and room("tidy", "tidied") == (0, tidied, "") and is_published(room)
 
 
-def is_published(program, folder):
+def is_published(room):
     """Whether the file is refused for its airline or its time mode, or a desk that receives what is published has all but the unsaid dates."""
-    status, printed, errors = run(program, folder, *PUBLISH)
+    status, printed, errors = room(*PUBLISH)
     if status == 1:
-        return printed == b"" and errors in (b"refused 41 Airline sub 0\n", b"refused 40 TimeMode sub 0\n")
+        return printed == b"" and errors in ("refused 41 Airline sub 0\n", "refused 40 TimeMode sub 0\n")
     texts, unsaid = re.search(rb"texts (\d+) subs \d+ unsaid dates (\d+)\n\Z", printed).groups()
-    received, left = run(program, folder, "receive", "sender", "new", "out"), run(program, folder, "diff", "new", "altered")
+    received, left = room("receive", "sender", "new", "out"), room("diff", "new", "altered")
     is_received = received[0] == 0 and received[1].endswith(b"taken " + texts + b" repeated 0 refused 0\n")
     return is_received and left[1].endswith(b"same\n" if unsaid == b"0" else b" dates " + unsaid + b"\n")
 
 
-def is_text(program, folder):
+def is_text(room):
     """Whether the file is refused as a text, or taken, and what was taken is held as it is."""
-    write(folder, "taken", b"")
-    status, printed, errors = run(program, folder, "take", "desk", "taken", "altered")
+    room.write("taken", b"")
+    status, printed, errors = room("take", "desk", "taken", "altered")
     if status == 1:
-        return read(folder, "taken") == printed == b"" and re.fullmatch(REFUSED_TEXT, errors) is not None
-    again = run(program, folder, "take", "taken", "again", "altered")
-    repeated = (0, printed.replace(b"taken", b"repeated"), b"")
-    return status == 0 and again == repeated and read(folder, "again") == read(folder, "taken")
+        return room.read("taken") == printed == b"" and re.fullmatch(REFUSED_TEXT, errors) is not None
+    again = room("take", "taken", "again", "altered")
+    repeated = (0, printed.replace(b"taken", b"repeated"), "")
+    return status == 0 and again == repeated and room.read("again") == room.read("taken")
 
 
-def is_script(program, folder):
+def is_script(room):
     """Whether the file is refused as a script, or run to its end."""
-    status, printed, errors = run(program, folder, "rehearse", "season", "none", "altered")
+    status, printed, errors = room("rehearse", "season", "none", "altered")
     if status == 1:
         return printed == b"" and re.fullmatch(REFUSED_SCRIPT, errors, re.DOTALL) is not None
     return status == 0 and printed.endswith((b"\nsame\n", b"\ndifferent\n"))
 
 
-def is_desk(program, folder):
+def is_desk(room):
     """Whether the file is refused as 62, or written again with the same bytes."""
-    data = read(folder, "altered")
-    status, _, errors = run(program, folder, "merge", "altered", "altered", "again")
+    data = room.read("altered")
+    status, _, errors = room("merge", "altered", "altered", "again")
     if status == 1:
-        return errors.startswith(b"refused 62 DeskFile offset ")
-    return status == 0 and read(folder, "again")[FIRST_LINE:] == data[FIRST_LINE:] and data.startswith(b"SSIMDESK ")
+        return errors.startswith("refused 62 DeskFile offset ")
+    return status == 0 and room.read("again")[FIRST_LINE:] == data[FIRST_LINE:] and data.startswith(b"SSIMDESK ")
 
 
 def fault_columns(fields):
@@ -171,13 +156,13 @@ def altered_records():
     yield b"11 BadType", [(f"type {byte}", bytes([byte]) + records["leg"][1:], None if byte in b"12345" else b"") for byte in types]
 
 
-def wrong_records(program, folder):
+def wrong_records(room):
     """The number of altered records, and the names of those that `problems` does not name as it has to."""
     count, wrong = 0, []
     begun = vectors()["header"] + vectors()["carrier"]
     for refusal, found in altered_records():
-        write(folder, "altered", begun + b"".join(line for _, line, _ in found))
-        printed = run(program, folder, "problems", "altered")[1]
+        room.write("altered", begun + b"".join(line for _, line, _ in found))
+        printed = room("problems", "altered")[1]
         named = {int(record): rest for record, rest in re.findall(rb"^%s record (\d+)(.*)$" % refusal, printed, re.MULTILINE)}
         wrong += [name for record, (name, _, rest) in enumerate(found, 3) if named.get(record) != rest]
         count += len(found) if printed else 0
@@ -189,15 +174,16 @@ def main():
         sys.exit(__doc__)
     program, passed, failed = os.path.abspath(sys.argv[1]), 0, 0
     with tempfile.TemporaryDirectory(dir=fast_folder()) as folder:
-        for data, is_right, places in small_files(program, folder):
+        room = Room(os.path.join(folder, "files"), program)
+        for data, is_right, places in small_files(room):
             for name, other in altered(data, places):
-                write(folder, "altered", other)
-                if is_right(program, folder):
+                room.write("altered", other)
+                if is_right(room):
                     passed += 1
                 else:
                     failed += 1
                     print(f"replaced_bytes: {name} of {len(data)} bytes")
-        count, wrong = wrong_records(program, folder)
+        count, wrong = wrong_records(room)
         passed, failed = passed + count - len(wrong), failed + len(wrong)
         print("".join(f"replaced_bytes: {name}\n" for name in wrong[:20]), end="")
     print(f"{passed} passed, {failed} failed")
