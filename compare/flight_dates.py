@@ -6,7 +6,7 @@ It reads only what `tidy` and `export` write, where equal legs have equal column
 import collections
 import datetime
 
-from chapter7 import DAY, FILL, date, day_of
+from chapter7 import DAY, FILL, date, dates_of, day_of
 
 WEEKDAYS = "1234567"
 HEADER = ("flight,first,last,days,leg,from,passenger_departure,departure,departure_utc_variation,to,arrival,passenger_arrival,"
@@ -46,7 +46,7 @@ class Timetable:
         for record in records:
             if record[0] == "3":
                 legs.append((" " * 11 + record[11:14] + " " * 22 + record[36:127] + " " + record[128:194], []))
-                for day in dates_of(record):
+                for day in dates_of(day_of(record[14:21]), day_of(record[21:28]), record[28:35]):
                     found[int(record[5:9]), record[1]][day].append(len(legs) - 1)
             elif record[0] == "4":
                 legs[-1][1].append(record[14:27] + record[28:194])
@@ -57,13 +57,6 @@ class Timetable:
     def designator(self, flight):
         number, suffix = flight
         return f"{self.airline}{number:03}{suffix.strip()}"
-
-
-def dates_of(record):
-    """The dates of a leg record."""
-    first, last = day_of(record[14:21]), day_of(record[21:28])
-    days = (first + place * DAY for place in range((last - first).days + 1))
-    return [day for day in days if WEEKDAYS[day.weekday()] in record[28:35]]
 
 
 # ---- periods

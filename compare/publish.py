@@ -12,7 +12,7 @@ import re
 import messages
 import publishing
 import small
-from chapter7 import DAY, date, day_of, with_column
+from chapter7 import DAY, date, dates_of, day_of, with_column
 from flight_dates import Timetable
 from plain_flights import Plain
 from publishing import Reference
@@ -200,14 +200,13 @@ def expanded(lines, first_word):
     found = collections.defaultdict(list)
     for words in (line.split() for line in lines):
         flight, first, last, weekdays = words[first_word : first_word + 4]
-        first, last = day_of(first), day_of(last)
-        found[flight] += [day for day in (first + place * DAY for place in range((last - first).days + 1)) if str(day.isoweekday()) in weekdays]
+        found[flight] += dates_of(day_of(first), day_of(last), weekdays)
     return {flight: sorted(dates) for flight, dates in found.items()}
 
 
 def count_of(period):
     first, last, weekdays = period
-    return sum((first + place * DAY).weekday() in weekdays for place in range((last - first).days + 1))
+    return len(dates_of(first, last, {str(weekday + 1) for weekday in weekdays}))
 
 
 def compared(rng, room, case):

@@ -32,6 +32,12 @@ def day_of(text):
     return datetime.date(2000 + int(text[5:7]), MONTHS.index(text[2:5]) + 1, int(text[:2]))
 
 
+def dates_of(first, last, digits):
+    """The dates of a period, whose days of operation have these digits."""
+    span = (first + place * DAY for place in range((last - first).days + 1))
+    return [day for day in span if str(day.isoweekday()) in digits]
+
+
 def clock(minutes):
     """The time of day of so many minutes after a midnight."""
     return f"{minutes // 60 % 24:02}{minutes % 60:02}"

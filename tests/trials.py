@@ -20,7 +20,7 @@ HERE = os.path.dirname(os.path.abspath(__file__))
 sys.path.insert(0, os.path.join(os.path.dirname(HERE), "make"))
 
 from cases import bytes_shown, shown
-from chapter7 import DAY, data_set, date, day_of, plain_season
+from chapter7 import DAY, data_set, date, dates_of, day_of, plain_season
 from messages import Stations, spelt, written
 
 DESKS = (1, 2, 3)
@@ -76,12 +76,6 @@ class Sub:
     def ends(self):
         """The stations and times of the leg lines."""
         return [(line[:3], line[3:7], line[8:11], line[11:]) for line in self.legs]
-
-
-def dates_of(first, last, days):
-    """The dates of a period."""
-    span = [first + place * DAY for place in range((last - first).days + 1)]
-    return [day for day in span if str(day.isoweekday()) in days]
 
 
 def random_sub(rng, kind):
