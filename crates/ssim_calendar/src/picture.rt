@@ -18,7 +18,7 @@ const WEEKS: usize = 53;
 
 /// Cells, and the first and the last day that has a letter.
 #[derive(Clone, Copy)]
-struct Dates<'a> {
+struct CellRange<'a> {
     cells: &'a [u8],
     first: usize,
     last: usize,
@@ -41,7 +41,7 @@ struct WeekRange {
 struct Blocks<'a, 'b> {
     alloc: Global,
     title: &'a [u8],
-    dates: Dates<'b>,
+    dates: CellRange<'b>,
     from: usize,
     end: usize,
     ghost small: { end < 5220 },
@@ -58,14 +58,14 @@ struct Digits {
 #[derive(Clone, Copy)]
 struct WeekdayRows<'a> {
     alloc: Global,
-    dates: Dates<'a>,
+    dates: CellRange<'a>,
     weeks: WeekRange,
 }
 
 /// The cells of a weekday; a blank before the first date and after the last.
 #[derive(Clone, Copy)]
 struct WeekdayCells<'a> {
-    dates: Dates<'a>,
+    dates: CellRange<'a>,
     weekday: usize,
     ghost within: { weekday < 7 },
 }
@@ -86,7 +86,7 @@ pub fn push_picture(
         return Ok(());
     }
     let last = last_date(cells);
-    let dates = Dates { cells, first, last };
+    let dates = CellRange { cells, first, last };
     let blocks = Blocks {
         alloc,
         title,
@@ -155,7 +155,7 @@ fn push_block(
     alloc: Global,
     lines: &mut Vec<u8>,
     title: &[u8],
-    dates: Dates<'_>,
+    dates: CellRange<'_>,
     weeks: WeekRange,
 ) -> Result<(), Memory>
     ensures { OnOk result (lines.new.items ≡ lines.old.items ++ block title.now
@@ -179,7 +179,7 @@ fn push_block(
 fn push_title(
     lines: &mut Vec<u8>,
     title: &[u8],
-    dates: Dates<'_>,
+    dates: CellRange<'_>,
     weeks: WeekRange,
 ) -> Result<(), Memory>
     ensures { OnOk result (lines.new.items ≡ lines.old.items

@@ -13,8 +13,8 @@ use Rattle.ssim_values.specs.Station.{is_station}
 use Rattle.ssim_values.specs.Airline.{is_airline}
 use Rattle.ssim_values.specs.Flight.{is_suffix}
 use Rattle.ssim_columns.specs.Numbers.{is_blank, digits_of, number_of, sequence_of}
-use Rattle.ssim_columns.specs.declared.field.Kind.{Kind}
-use Rattle.ssim_columns.specs.declared.field.Kind.TheVariants.{Suffix, AirlineCode, Number, Sequence, Carried, Dates, Date, Days, StationCode, Time, PassengerTime, UtcVariation, Digits, Mode, Code, Title}
+use Rattle.ssim_columns.specs.declared.field.FieldKind.{FieldKind}
+use Rattle.ssim_columns.specs.declared.field.FieldKind.TheVariants.{Suffix, AirlineCode, Number, Sequence, Carried, Dates, Date, Days, StationCode, Time, PassengerTime, UtcVariation, Digits, Mode, Code, Title}
 use Rattle.ssim_columns.specs.declared.field.Field.{Field}
 use Rattle.ssim_values.specs.declared.time_mode.TimeMode.{TimeMode}
 use Rattle.ssim_values.specs.declared.time_mode.TimeMode.TheVariants.{Utc, Local}
@@ -114,7 +114,7 @@ dates_fault text =
 
 -- The index of the column that a fault names, counted from 0 in a field of this kind, if the text
 -- is invalid. In carried columns, each a field of its own, it is the first invalid one.
-abbrev pub fault_in : Kind → List ℕ → Option ℕ
+abbrev pub fault_in : FieldKind → List ℕ → Option ℕ
 fault_in Suffix text = unless (list_all is_suffix text)
 fault_in AirlineCode text = unless (is_airline text)
 fault_in Number text = unless (is_some (number_of text))
@@ -133,7 +133,7 @@ fault_in Code text = unless (is_some (end_code_of text))
 fault_in Title text = unless (is_title text)
 
 -- a field of a table, with its first and last column and its kind
-abbrev pub field : ℕ → ℕ → Kind → Field
+abbrev pub field : ℕ → ℕ → FieldKind → Field
 field first last kind = record { first = first; last = last; kind = kind }
 
 -- the column that the first fault of a field names

@@ -1,7 +1,7 @@
 -- Segment data records, type 4.
 use Rattle.std.specs.Prelude.{ℕ, ◌≡◌, ◌<◌, IsTrue, List, [], ◌∷◌, ◌++◌, length, slice_range, replicate, codes, Some}
 use Rattle.std.specs.List.{concat, list_all}
-use Rattle.ssim_columns.specs.declared.field.Kind.TheVariants.{Carried, Digits}
+use Rattle.ssim_columns.specs.declared.field.FieldKind.TheVariants.{Carried, Digits}
 use Rattle.ssim_columns.specs.declared.field.Field.{Field}
 use Rattle.ssim_columns.specs.Numbers.{digits_of, digits}
 use Rattle.ssim_columns.specs.Columns.{columns, field, filled, is_carried, EachIsValid}

@@ -31,7 +31,7 @@ use ssim_values::{Airline, Clock, Day, DayMask, Station, Variation};
 
 /// The kind of a field: the texts that are valid in its columns.
 #[derive(Clone, Copy, Debug, PartialEq, Eq)]
-pub enum Kind {
+pub enum FieldKind {
     Suffix,
     AirlineCode,
     Number,
@@ -55,7 +55,7 @@ pub enum Kind {
 pub struct Field {
     pub first: usize,
     pub last: usize,
-    pub kind: Kind,
+    pub kind: FieldKind,
 }
 
 impl Field {
@@ -280,29 +280,29 @@ fn dates_fault(text: &[u8]) -> Option<usize>
 }
 
 /// The index of the first fault in the columns of a field, from 0.
-fn fault_in(kind: Kind, text: &[u8]) -> Option<usize>
+fn fault_in(kind: FieldKind, text: &[u8]) -> Option<usize>
     requires fits { IsTrue (fits_kind kind (length text.now)) }
     requires len { length text.now ≤ 200 }
     ensures small { IfSome result (λ place. place ≤ 200) }
     ensures value { result ≡ fault_in kind text.now }
 {
     match kind {
-        Kind::Suffix => unless(are_suffixes(text)),
-        Kind::AirlineCode => unless(is_airline(text)),
-        Kind::Number => unless(number_of(text).is_some()),
-        Kind::Sequence => unless(sequence_of(text).is_some()),
-        Kind::Carried => carried_fault(text),
-        Kind::Dates => dates_fault(text),
-        Kind::Date => unless(day_of(text).is_some()),
-        Kind::Days => unless(days_of(text).is_some()),
-        Kind::StationCode => unless(is_station(text)),
-        Kind::Time => unless(clock_of(text).is_some()),
-        Kind::PassengerTime => unless(passenger_time_of(text).is_some()),
-        Kind::UtcVariation => unless(utc_variation_of(text).is_some()),
-        Kind::Digits => unless(digits_of(text).is_some()),
-        Kind::Mode => unless(time_mode_of(text).is_some()),
-        Kind::Code => unless(end_code_of(text).is_some()),
-        Kind::Title => unless(is_title(text)),
+        FieldKind::Suffix => unless(are_suffixes(text)),
+        FieldKind::AirlineCode => unless(is_airline(text)),
+        FieldKind::Number => unless(number_of(text).is_some()),
+        FieldKind::Sequence => unless(sequence_of(text).is_some()),
+        FieldKind::Carried => carried_fault(text),
+        FieldKind::Dates => dates_fault(text),
+        FieldKind::Date => unless(day_of(text).is_some()),
+        FieldKind::Days => unless(days_of(text).is_some()),
+        FieldKind::StationCode => unless(is_station(text)),
+        FieldKind::Time => unless(clock_of(text).is_some()),
+        FieldKind::PassengerTime => unless(passenger_time_of(text).is_some()),
+        FieldKind::UtcVariation => unless(utc_variation_of(text).is_some()),
+        FieldKind::Digits => unless(digits_of(text).is_some()),
+        FieldKind::Mode => unless(time_mode_of(text).is_some()),
+        FieldKind::Code => unless(end_code_of(text).is_some()),
+        FieldKind::Title => unless(is_title(text)),
     }
 }
 

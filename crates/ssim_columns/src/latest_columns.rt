@@ -11,7 +11,7 @@ ghost use Rattle.ssim_columns.specs.internal.LatestColumns.{SpellsFlight};
 ghost use Rattle.ssim_columns.specs.internal.LatestColumns.{SpellsSerialFront};
 ghost use Rattle.ssim_columns.specs.Numbers.{digits_of};
 
-use crate::field::{Field, Kind, days_of, end_from};
+use crate::field::{Field, FieldKind, days_of, end_from};
 use crate::latest_months::LatestMonths;
 use crate::latest_value::{InColumns, LatestValue};
 use crate::leg::leg_fields::{DATES, DAYS, FIRST_DAY, LAST_DAY};

@@ -2,7 +2,7 @@
 //! Schedules Information Manual has them: which texts each field allows, what they say, and how
 //! they are written.
 //!
-//! - [`Field`] and [`Kind`]: a field's columns and its valid texts. [`first_fault`] finds the first
+//! - [`Field`] and [`FieldKind`]: a field's columns and its valid texts. [`first_fault`] finds the first
 //!   column of the first invalid field of a table.
 //! - [`leg_fields`]: the one table of a leg's fields with their columns. [`LegColumns::text`]
 //!   returns the bytes of a field.
@@ -27,7 +27,7 @@ macro_rules! field {
         Field {
             first: $first,
             last: $last,
-            kind: Kind::$kind,
+            kind: FieldKind::$kind,
         }
     };
 }
@@ -46,7 +46,7 @@ pub use field::columns::{
 };
 pub use field::end_code::{EndCode, end_code_of, end_code_text};
 pub use field::time_mode::{time_mode_of, time_mode_text};
-pub use field::{Field, Kind, first_fault};
+pub use field::{Field, FieldKind, first_fault};
 pub use latest_columns::LatestColumns;
 pub use leg::leg_columns::{LegColumns, own_columns_at};
 pub use leg::leg_fields;

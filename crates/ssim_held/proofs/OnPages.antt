@@ -15,7 +15,7 @@ use Rattle.ssim_held.specs.Held.{reference_cmp}
 use Rattle.ssim_held.specs.Entries.{AreRising, Entry, keyed, map_of}
 use Rattle.ssim_held.specs.clauses.Ordered.{Belongs}
 use Rattle.ssim_held.specs.clauses.Pages.{IsFilled, IsHeldOn, all_of, position, position_on}
-use Rattle.ssim_held.specs.declared.pages.Place.{Place}
+use Rattle.ssim_held.specs.declared.pages.PagePlace.{PagePlace}
 use Rattle.ssim_held.proofs.Entries.{T-from_true, and_left, and_right, both, flips, held_at, true-from_T}
 use Rattle.ssim_held.proofs.References.{reference_apart, reference_total}
 use Rattle.ssim_held.proofs.Searching.{at_index, index_of_get, narrow_down, rise}
@@ -309,7 +309,7 @@ is_long ps k p q n is read len full = let same = ap length (read ∙ get_or_from
 -- ---- what is held at a place
 
 -- the message at the place of a reference is held under it
-pub held_on : (ps : List (List Entry)) (r : Reference) (place : Place) → AreRising (all_of ps) → IsHeldOn ps r place → (e : Entry) → slice_get (all_of ps) (position ps place) ≡ Some e
+pub held_on : (ps : List (List Entry)) (r : Reference) (place : PagePlace) → AreRising (all_of ps) → IsHeldOn ps r place → (e : Entry) → slice_get (all_of ps) (position ps place) ≡ Some e
     → get (map_of (all_of ps)) r ≡ Some e.message
 held_on ps r place rising is e there =
     let found = is.there in

@@ -16,7 +16,7 @@ use std::rc::Rc;
 pub struct Held {
     /// The reference of the contents, so that a search in a list reads the list alone.
     reference: Reference,
-    contents: Rc<Contents>,
+    contents: Rc<HeldParts>,
 }
 
 impl Model for Held {
@@ -31,14 +31,14 @@ impl Model for Held {
 }
 
 #[derive(Drop)]
-struct Contents {
+struct HeldParts {
     reference: Reference,
     message: Message,
     /// Flight and full dates of each sub-message.
     dates: Vec<ResolvedSub>,
 }
 
-impl Model for Contents {
+impl Model for HeldParts {
     ghost use Rattle.std.specs.Prelude.{◌≡◌, length};
     ghost use Rattle.ssim_held.specs.Entries.{Entry};
 
@@ -53,7 +53,7 @@ impl Model for Contents {
     ghost invariant = { λ h. length h.dates.items ≡ length h.message.subs };
 }
 
-impl Contents {
+impl HeldParts {
     fn message(&self) -> &Message
         ensures { result.now ≡ self.now.message }
     {
@@ -86,7 +86,7 @@ impl Held {
         ensures { IfOk result (λ held. held
             ≡ record { reference = reference; message = message; dates = dates.items }) }
     {
-        let contents = Contents {
+        let contents = HeldParts {
             reference,
             message,
             dates,

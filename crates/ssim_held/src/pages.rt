@@ -46,7 +46,7 @@ impl Model for Pages {
 
 /// A message, or the gap before it, by the number of its page and its number there, both from 0.
 #[derive(Clone, Copy, Debug, PartialEq, Eq)]
-pub struct Place {
+pub struct PagePlace {
     pub page: usize,
     pub at: usize,
 }
@@ -134,23 +134,23 @@ impl Pages {
     }
 
     /// The place of a reference, or the place where it belongs.
-    pub fn search(&self, reference: &Reference) -> Result<Place, Place>
+    pub fn search(&self, reference: &Reference) -> Result<PagePlace, PagePlace>
         requires { AreRising (all_of self.now) }
         ensures found { IfOk result (IsHeldOn self.now reference.now) }
         ensures absent { IfErr result (BelongsOn self.now reference.now) }
     {
         if self.pages.is_empty() {
-            return Err(Place { page: 0, at: 0 });
+            return Err(PagePlace { page: 0, at: 0 });
         }
         let page = page_of(&self.pages, reference);
         match search(self.pages[page].held(), reference) {
-            Ok(at) => Ok(Place { page, at }),
-            Err(at) => Err(Place { page, at }),
+            Ok(at) => Ok(PagePlace { page, at }),
+            Err(at) => Err(PagePlace { page, at }),
         }
     }
 
     /// The message at a place.
-    pub fn at(&self, place: Place) -> &Held
+    pub fn at(&self, place: PagePlace) -> &Held
         requires { (page : List Entry) × (slice_get self.now place.page ≡ Some page)
             × (place.at < length page) }
         ensures { slice_get (all_of self.now) (position self.now place) ≡ Some result.now }
@@ -159,7 +159,7 @@ impl Pages {
     }
 
     /// Puts a message into a gap.
-    pub fn insert(&mut self, place: Place, new: Held) -> Result<(), Memory>
+    pub fn insert(&mut self, place: PagePlace, new: Held) -> Result<(), Memory>
         requires { IsGap self.old place }
         ensures ok { OnOk result
             (all_of self.new ≡ insert (all_of self.old) (position self.old place) new) }
@@ -169,7 +169,7 @@ impl Pages {
     }
 
     /// Takes away the message at a place. Allocates nothing.
-    pub fn remove(&mut self, place: Place)
+    pub fn remove(&mut self, place: PagePlace)
         requires { (page : List Entry) × (slice_get self.old place.page ≡ Some page)
             × (place.at < length page) }
         ensures { all_of self.new ≡ remove (all_of self.old) (position self.old place) }
@@ -242,7 +242,7 @@ fn begins_after(page: &Page, reference: &Reference) -> bool
 }
 
 // Puts a message into a gap. If the page is full, it is divided first.
-fn insert(alloc: Global, pages: &mut Vec<Page>, place: Place, new: Held) -> Result<(), Memory>
+fn insert(alloc: Global, pages: &mut Vec<Page>, place: PagePlace, new: Held) -> Result<(), Memory>
     requires { IsGap pages.old.items place }
     ensures ok { OnOk result
         (all_of pages.new.items
@@ -259,7 +259,7 @@ fn insert(alloc: Global, pages: &mut Vec<Page>, place: Place, new: Held) -> Resu
 }
 
 // Divides the page of a gap if it is full. Returns the place of the gap.
-fn divided(pages: &mut Vec<Page>, place: Place) -> Result<Place, Memory>
+fn divided(pages: &mut Vec<Page>, place: PagePlace) -> Result<PagePlace, Memory>
     requires on { (page : List Entry) × (slice_get pages.old.items place.page ≡ Some page)
         × (place.at ≤ length page) }
     ensures all { all_of pages.new.items ≡ all_of pages.old.items }
@@ -276,7 +276,7 @@ fn divided(pages: &mut Vec<Page>, place: Place) -> Result<Place, Memory>
     if place.at <= FULL / 2 {
         Ok(place)
     } else {
-        Ok(Place {
+        Ok(PagePlace {
             page: place.page + 1,
             at: place.at - FULL / 2,
         })
@@ -299,7 +299,7 @@ fn divide(pages: &mut Vec<Page>, number: usize) -> Result<(), Memory>
 }
 
 // Takes away the message at a place, and its page if it was the only one there.
-fn remove(pages: &mut Vec<Page>, place: Place)
+fn remove(pages: &mut Vec<Page>, place: PagePlace)
     requires on { (page : List Entry) × (slice_get pages.old.items place.page ≡ Some page)
         × (place.at < length page) }
     ensures all { all_of pages.new.items

@@ -10,14 +10,14 @@ ghost use Rattle.ssim_mailbox.specs.internal.Lines.{line_of};
 ghost use Rattle.ssim_mailbox.specs.internal.Texts.{IsDraft, ends_by, number_from, texts_with};
 
 use crate::free_text::FreeText;
-use crate::line::Line;
+use crate::line::MailboxLine;
 use crate::role::Role;
 use crate::text::Text;
 use std::alloc::{AllocError, Global};
 
 /// A text of which some lines are read.
 #[derive(Drop)]
-pub(crate) struct Draft {
+pub(crate) struct TextDraft {
     /// The number of its first line, once there is one.
     line: usize,
     /// Its lines, each of which LF ends. There are none before the first that is not empty.
@@ -39,13 +39,13 @@ fn ends(free: FreeText, role: Role, line: &[u8]) -> bool
     }
 }
 
-impl Draft {
+impl TextDraft {
     /// A draft without lines.
-    pub(crate) fn new(alloc: Global) -> Draft
+    pub(crate) fn new(alloc: Global) -> TextDraft
         ensures draft { IsDraft result [] }
         ensures free { result.free ≡ Ahead }
     {
-        Draft {
+        TextDraft {
             line: 0,
             bytes: Vec::new(alloc),
             end: 0,
@@ -65,7 +65,7 @@ impl Draft {
     }
 
     /// Adds a line that is not empty.
-    fn push_filled(&mut self, line: &Line) -> Result<(), AllocError>
+    fn push_filled(&mut self, line: &MailboxLine) -> Result<(), AllocError>
         ensures draft { OnOk result (is_empty (line_of line.now) ≡ false
             → (begun : List MailLine) → IsDraft self.old begun
             → IsDraft self.new (begun ++ line_of line.now ∷ [])) }
@@ -92,7 +92,7 @@ impl Draft {
     }
 
     /// Adds a line.
-    fn push(&mut self, line: &Line) -> Result<(), AllocError>
+    fn push(&mut self, line: &MailboxLine) -> Result<(), AllocError>
         ensures draft { OnOk result ((begun : List MailLine) → IsDraft self.old begun
             → IsDraft self.new (begun ++ line_of line.now ∷ [])) }
         ensures free { OnOk result
@@ -108,7 +108,7 @@ impl Draft {
 
     /// Whether a line of this role ends the text of the lines. There is none before a line that is
     /// not empty.
-    pub(crate) fn is_ended_by(&self, role: Role, line: &Line) -> bool
+    pub(crate) fn is_ended_by(&self, role: Role, line: &MailboxLine) -> bool
         ensures yes { result ≡ true → (1 ≤ length self.now.bytes.items)
             × (ends_by self.now.free role line.now.bytes.now ≡ true) }
         ensures no { result ≡ false → ends_by self.now.free role line.now.bytes.now ≡ true
@@ -118,7 +118,12 @@ impl Draft {
     }
 
     /// Adds a line by its role, if it does not end the text of the lines.
-    pub(crate) fn add(&mut self, alloc: Global, role: Role, line: &Line) -> Result<(), AllocError>
+    pub(crate) fn add(
+        &mut self,
+        alloc: Global,
+        role: Role,
+        line: &MailboxLine,
+    ) -> Result<(), AllocError>
         requires { ends_by self.old.free role line.now.bytes.now ≡ true
             → self.old.bytes.items ≡ [] }
         ensures { OnOk result ((begun : List MailLine) → IsDraft self.old begun
@@ -129,13 +134,13 @@ impl Draft {
     {
         match role {
             Role::First => {
-                *self = Draft::new(alloc);
+                *self = TextDraft::new(alloc);
                 self.push(line)?;
             }
-            Role::Inside if self.free.is_ended_by(line.bytes) => *self = Draft::new(alloc),
+            Role::Inside if self.free.is_ended_by(line.bytes) => *self = TextDraft::new(alloc),
             Role::Inside => self.push(line)?,
             Role::Envelope => {}
-            Role::End => *self = Draft::new(alloc),
+            Role::End => *self = TextDraft::new(alloc),
         }
         Ok(())
     }

@@ -8,7 +8,7 @@ ghost use Rattle.ssim_mailbox.specs.internal.Lines.{split_rest};
 
 /// A line of a mailbox.
 #[derive(Clone, Copy)]
-pub(crate) struct Line<'a> {
+pub(crate) struct MailboxLine<'a> {
     /// Its number among all lines, from 1.
     pub number: usize,
     /// Its bytes, without control characters at both ends, nor blanks and CR bytes at the end.
@@ -124,12 +124,12 @@ impl<'a> Lines<'a> {
     }
 
     /// The next line.
-    pub(crate) fn next(&mut self) -> Option<Line<'a>>
+    pub(crate) fn next(&mut self) -> Option<MailboxLine<'a>>
         requires { self.old.above < 2 ^ 63 }
         ensures { IsNextLine (option_map line_of result) self.old self.new }
     {
         let (line, rest) = split_once(self.rest?, b'\n');
-        let line = Line {
+        let line = MailboxLine {
             number: self.above + 1,
             bytes: shown(line),
             under_dot: self.under_dot,

@@ -7,7 +7,7 @@ ghost use Rattle.ssim_mailbox.specs.internal.Lines.{line_of};
 ghost use Rattle.ssim_mailbox.specs.internal.Roles.{AreRoles, IsAhead, plain_line};
 
 use crate::address::is_address_line;
-use crate::line::{Line, begins_with_dot, rsplit_once, shown};
+use crate::line::{MailboxLine, begins_with_dot, rsplit_once, shown};
 use std::alloc::{AllocError, Global};
 
 /// What a line is to the texts.
@@ -97,7 +97,7 @@ fn role_of(bytes: &[u8], ahead: Ahead, below: Ahead) -> Role
 
 impl Role {
     /// The role of a line that has this role if it is not under a dot.
-    pub(crate) fn of(self, line: &Line) -> Role
+    pub(crate) fn of(self, line: &MailboxLine) -> Role
         ensures { (n : ℕ) (piece : List ℕ) (below : List MailLine)
             → shown piece ≡ line.now.bytes.now → self ≡ role_of (plain_line n piece) below
             → result ≡ role_of (line_of line.now) below }

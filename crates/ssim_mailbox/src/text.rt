@@ -5,7 +5,7 @@ ghost use Rattle.ssim_mailbox.specs.Texts.{texts_in};
 ghost use Rattle.ssim_mailbox.specs.clauses.Mail.{mail_of};
 ghost use Rattle.ssim_mailbox.specs.internal.Texts.{AreRolesOf, texts_left};
 
-use crate::draft::Draft;
+use crate::draft::TextDraft;
 use crate::line::Lines;
 use crate::role::{Role, roles};
 use ssim_values::Memory;
@@ -71,7 +71,7 @@ fn read_text(alloc: Global, lines: &mut Lines, roles: &[Role]) -> Result<Option<
         ≡ option_to_list (option_map mail_of text) ++ texts_left lines.new) }
     ensures none { result ≡ Ok None → texts_left lines.new ≡ [] }
 {
-    let mut draft = Draft::new(alloc);
+    let mut draft = TextDraft::new(alloc);
     loop {
         let mut after = *lines;
         let Some(line) = after.next() else {

@@ -23,7 +23,7 @@ use Rattle.ssim_outbox.specs.clauses.Acting.{ActEach}
 use Rattle.ssim_outbox.specs.Acting.{ActOn}
 use Rattle.ssim_outbox.specs.Published.{IsPublished, IsPublishedOn, NamesDifferences, legs_after}
 use Rattle.ssim_outbox.specs.Reach.{IsSaid, Leads, Reach, after_all}
-use Rattle.ssim_outbox.specs.declared.draft.Draft.{Draft}
+use Rattle.ssim_outbox.specs.declared.draft.PlanDraft.{PlanDraft}
 use Rattle.ssim_outbox.specs.declared.planned_sub.PlannedSub.{PlannedSub}
 use Rattle.ssim_outbox.specs.internal.Drafts.{ActOnEach, Acts, AreAsLong, Dates, IsDraft, IsMadeOn}
 use Rattle.ssim_outbox.specs.internal.Drafts.{IsSettled, Settles}
@@ -52,7 +52,7 @@ itinerary_at xs days n legs same h =
 
 module _ (rows : List Row) (old new : FlightNumber → Days) where
   -- nothing changes
-  pub unchanged : (d : Draft) → IsDraft rows old new d → Settles rows old new no_dates d d
+  pub unchanged : (d : PlanDraft) → IsDraft rows old new d → Settles rows old new no_dates d d
   unchanged d is = record { draft = is; settled = λ g n exists within. by g n }
     where
       by : (g : FlightNumber) (n : ℕ) → IsSettled rows old new d g n ⊎ IsTrue false
@@ -61,7 +61,7 @@ module _ (rows : List Row) (old new : FlightNumber → Days) where
       by g n (inr e) = absurd (grind (arith, nat_tests))
 
   -- some dates and then others
-  pub one_after : (first second : Dates) (a b c : Draft) → Settles rows old new first a b
+  pub one_after : (first second : Dates) (a b c : PlanDraft) → Settles rows old new first a b
       → Settles rows old new second b c → Settles rows old new (λ g n. first g n || second g n) a c
   one_after first second a b c one two = record {
     draft = two.draft;
@@ -80,7 +80,7 @@ module _ (rows : List Row) (old new : FlightNumber → Days) where
           which (inr s) = two.settled g n exists within (inr s)
 
   -- fewer dates
-  pub fewer : (more less : Dates) (a b : Draft)
+  pub fewer : (more less : Dates) (a b : PlanDraft)
       → ((g : FlightNumber) (n : ℕ) → IsFlight g → n < day_count → IsTrue (less g n)
       → IsTrue (more g n))
       → Settles rows old new more a b → Settles rows old new less a b
@@ -95,7 +95,7 @@ module _ (rows : List Row) (old new : FlightNumber → Days) where
       by g n exists within (inr e) = s.settled g n exists within (inr (include g n exists within e))
 
   -- the date with a number
-  pub settled_at : (a b : Draft) (flight : FlightNumber) (period : DayRange) (number day : ℕ)
+  pub settled_at : (a b : PlanDraft) (flight : FlightNumber) (period : DayRange) (number day : ℕ)
       → day ≡ number → Settles rows old new (one_date flight day) a b
       → Settles rows old new (date_at flight period number) a b
   settled_at a b flight period number day is s =
@@ -110,7 +110,7 @@ module _ (rows : List Row) (old new : FlightNumber → Days) where
           rw (one.0, is) two.1
 
   -- no date has the number, or the period does not hold it
-  pub none_at : (d : Draft) (flight : FlightNumber) (period : DayRange) (number : ℕ)
+  pub none_at : (d : PlanDraft) (flight : FlightNumber) (period : DayRange) (number : ℕ)
       → ((n : ℕ) → n < day_count → number ≡ n → holds period n ≡ true → ⊥) → IsDraft rows old new d
       → Settles rows old new (date_at flight period number) d d
   none_at d flight period number none is =
@@ -126,7 +126,7 @@ module _ (rows : List Row) (old new : FlightNumber → Days) where
           none n within (grind (arith, nat_tests)) two.0
 
   -- one number more
-  pub one_more : (a b c : Draft) (flight : FlightNumber) (period : DayRange) (number : ℕ)
+  pub one_more : (a b c : PlanDraft) (flight : FlightNumber) (period : DayRange) (number : ℕ)
       → Settles rows old new (dates_before flight period number) a b
       → Settles rows old new (date_at flight period number) b c
       → Settles rows old new (dates_before flight period (number + 1)) a c
@@ -162,7 +162,7 @@ module _ (rows : List Row) (old new : FlightNumber → Days) where
               (rw (f, p) equal)
 
   -- none of the numbers so far
-  pub none_before : (d : Draft) (flight : FlightNumber) (period : DayRange) (first : ℕ)
+  pub none_before : (d : PlanDraft) (flight : FlightNumber) (period : DayRange) (first : ℕ)
       → first ≡ period.first → IsDraft rows old new d
       → Settles rows old new (dates_before flight period first) d d
   none_before d flight period first is draft =
@@ -181,7 +181,7 @@ module _ (rows : List Row) (old new : FlightNumber → Days) where
           grind (arith, nat_tests)
 
   -- all numbers of the period
-  pub all_before : (a b : Draft) (flight : FlightNumber) (period : DayRange) (end number : ℕ)
+  pub all_before : (a b : PlanDraft) (flight : FlightNumber) (period : DayRange) (end number : ℕ)
       → period.last < end → end ≤ number → Settles rows old new (dates_before flight period number) a b
       → Settles rows old new (dates_of_period flight period) a b
   all_before a b flight period end number within over s =
@@ -200,7 +200,7 @@ module _ (rows : List Row) (old new : FlightNumber → Days) where
           rw (one.0, one.1) less
 
   -- a date that is settled already
-  pub settled_already : (d : Draft) (flight : FlightNumber) (day : ℕ) → IsDraft rows old new d
+  pub settled_already : (d : PlanDraft) (flight : FlightNumber) (day : ℕ) → IsDraft rows old new d
       → IsSettled rows old new d flight day → Settles rows old new (one_date flight day) d d
   settled_already d flight day is here = record { draft = is; settled = λ g n exists within. by g n }
     where
@@ -218,7 +218,7 @@ module _ (rows : List Row) (old new : FlightNumber → Days) where
 
   -- More sub-messages, for one flight and one period, which each act on each of its dates, and
   -- lead there to the new itinerary. The two timetables differ on each of these dates.
-  pub more_acted : (before after : Draft) (actions : List Action) (flight : FlightNumber)
+  pub more_acted : (before after : PlanDraft) (actions : List Action) (flight : FlightNumber)
       (period : DayRange) → IsDraft rows old new before → AllByRecursion IsSaid actions
       → ((action : Action) → NamesDifferences old new (planned flight period action))
       → ((n : ℕ) → n < day_count → holds period n ≡ true
@@ -306,7 +306,7 @@ module _ (rows : List Row) (old new : FlightNumber → Days) where
       settled_by g n exists within false e (inr h) = absurd (grind (arith, nat_tests))
 
   -- if each date is settled, the draft is published
-  pub published : (d : Draft) → IsDraft rows old new d
+  pub published : (d : PlanDraft) → IsDraft rows old new d
       → ((g : FlightNumber) (n : ℕ) → IsFlight g → n < day_count → IsSettled rows old new d g n)
       → IsPublished rows old new (days_in d.schedule)
   published d is settled g n exists within =
@@ -329,7 +329,7 @@ module _ (rows : List Row) (old new : FlightNumber → Days) where
 
   -- The actions that are said of a date, as sub-messages of this date alone: they settle it, and
   -- they are said only if it differs.
-  pub date_acted : (before after : Draft) (actions : List Action) (flight : FlightNumber)
+  pub date_acted : (before after : PlanDraft) (actions : List Action) (flight : FlightNumber)
       (period : DayRange) (day : ℕ) → IsFlight flight → day < day_count → IsDraft rows old new before
       → ((n : ℕ) → holds period n ≡ nat_eq day n)
       → same_itinerary (on_day (days_in before.schedule flight) day) (on_day (new flight) day) ≡ false
@@ -395,7 +395,7 @@ module _ (rows : List Row) (old new : FlightNumber → Days) where
           (that_day n h) made_here
 
   -- no sub-messages yet
-  pub nothing_yet : (d : Draft) → d.subs.items ≡ [] → days_in d.schedule ≡ old → IsDraft rows old new d
+  pub nothing_yet : (d : PlanDraft) → d.subs.items ≡ [] → days_in d.schedule ≡ old → IsDraft rows old new d
   nothing_yet d none same = record {
     leave = λ g n _ _. ap (λ (days : FlightNumber → Days). on_day (days g) n) same
         ∙ ap (λ (subs : List PlannedSub). legs_after rows subs g n (on_day (old g) n)) (sym none);
@@ -408,7 +408,7 @@ module _ (rows : List Row) (old new : FlightNumber → Days) where
   }
 
   -- a draft in which each date is settled on which one before it differs is published
-  pub published_after : (before after : Draft)
+  pub published_after : (before after : PlanDraft)
       → Settles rows old new (dates_of_flights (differences (days_in before.schedule) new))
       before after
       → IsPublished rows old new (days_in after.schedule)
@@ -441,7 +441,7 @@ made_at made old new day legs before wanted legs_are before_are wanted_are same 
 )
 
 -- a draft with the sub-messages of a period that each act on each of its dates, and make it
-pub kept_period : (rows : List Row) (old new : FlightNumber → Days) (before after : Draft)
+pub kept_period : (rows : List Row) (old new : FlightNumber → Days) (before after : PlanDraft)
     (actions : List Action) (flight : FlightNumber) (period : DayRange) → period.first < day_count
     → IsDraft rows old new before → AllByRecursion IsSaid actions → holds period period.first ≡ true
     → ((n : ℕ) → n < day_count → holds period n ≡ true

@@ -13,18 +13,18 @@ use std::alloc::Global;
 
 /// Sub-messages so far, and the timetable that they leave.
 #[derive(Drop)]
-pub(crate) struct Draft {
+pub(crate) struct PlanDraft {
     pub subs: Vec<PlannedSub>,
     pub schedule: Schedule,
 }
 
-impl Draft {
+impl PlanDraft {
     /// No sub-messages so far.
-    pub(crate) fn of(alloc: Global, from: &Schedule) -> Result<Draft, Memory>
+    pub(crate) fn of(alloc: Global, from: &Schedule) -> Result<PlanDraft, Memory>
         ensures subs { IfOk result (λ draft. draft.subs.items ≡ []) }
         ensures schedule { IfOk result (λ draft. draft.schedule ≡ from.now) }
     {
-        Ok(Draft {
+        Ok(PlanDraft {
             subs: Vec::new(alloc),
             schedule: from.copy()?,
         })

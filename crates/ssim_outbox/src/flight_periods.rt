@@ -9,7 +9,7 @@ ghost use Rattle.ssim_outbox.specs.Reach.{IsSaid};
 ghost use Rattle.ssim_outbox.specs.internal.Drafts.{IsChangeOf, IsDraft};
 
 use crate::date_actions::say;
-use crate::draft::Draft;
+use crate::draft::PlanDraft;
 use crate::flight_change::FlightChange;
 use crate::mark::Mark;
 use crate::period_actions::add_period;
@@ -28,7 +28,7 @@ use std::mem;
 pub(crate) fn add_flights(
     alloc: Global,
     rows: &[StationRow],
-    draft: &mut Draft,
+    draft: &mut PlanDraft,
     from: &Schedule,
     to: &Schedule,
     flights: &[FlightDifference],
@@ -49,7 +49,7 @@ pub(crate) fn add_flights(
 fn add_periods(
     alloc: Global,
     rows: &[StationRow],
-    draft: &mut Draft,
+    draft: &mut PlanDraft,
     change: &FlightChange,
     said: Vec<Vec<Action>>,
     periods: &[(Period, Mark)],
@@ -70,7 +70,7 @@ fn add_periods(
 fn add_piece(
     alloc: Global,
     rows: &[StationRow],
-    draft: &mut Draft,
+    draft: &mut PlanDraft,
     change: &FlightChange,
     said: &mut Vec<Vec<Action>>,
     piece: &(Period, Mark),

@@ -7,7 +7,7 @@ ghost use Rattle.ssim_base.specs.Timetable.{Days};
 ghost use Rattle.ssim_outbox.specs.Reach.{IsSaid};
 ghost use Rattle.ssim_outbox.specs.internal.Drafts.{IsChangeOf, IsDraft};
 
-use crate::draft::{Draft, act_on, push_subs};
+use crate::draft::{PlanDraft, act_on, push_subs};
 use crate::flight_change::FlightChange;
 use crate::made_dates::is_made;
 use ssim_base::StationRow;
@@ -19,7 +19,7 @@ use ssim_values::{Memory, Period};
 /// as it is.
 pub(crate) fn add_period(
     rows: &[StationRow],
-    draft: &mut Draft,
+    draft: &mut PlanDraft,
     change: &FlightChange,
     period: Period,
     actions: Vec<Action>,

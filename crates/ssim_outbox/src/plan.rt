@@ -11,7 +11,7 @@ ghost use Rattle.ssim_outbox.specs.Acting.{ActOnTheirDates};
 ghost use Rattle.ssim_outbox.specs.Published.{IsPublished, Leave, NamesDifferences};
 ghost use Rattle.ssim_outbox.specs.Reach.{IsSaid};
 
-use crate::draft::Draft;
+use crate::draft::PlanDraft;
 use crate::flight_periods::add_flights;
 use crate::planned_sub::PlannedSub;
 use crate::single_dates::settle_flights;
@@ -66,7 +66,7 @@ pub fn make_plan(
         (λ plan. ActOnTheirDates rows.now plan.subs.items (days_in from.now)) }
 {
     let wanted = to.copy()?.into_flights()?;
-    let mut draft = Draft::of(alloc, from)?;
+    let mut draft = PlanDraft::of(alloc, from)?;
     let differing = left_in(alloc, &draft, &wanted)?;
     add_flights(alloc, rows, &mut draft, from, to, &differing)?;
     let left = left_in(alloc, &draft, &wanted)?;
@@ -82,7 +82,7 @@ pub fn make_plan(
 // The flights that differ in what the sub-messages so far leave and in the new timetable.
 fn left_in(
     alloc: Global,
-    draft: &Draft,
+    draft: &PlanDraft,
     wanted: &[FlightPieces],
 ) -> Result<Vec<FlightDifference>, Memory>
     ensures { (new : FlightNumber → Days) → wanted.now ≡ divided_flights new

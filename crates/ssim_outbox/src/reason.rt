@@ -26,11 +26,11 @@ const MOST_SEGMENTS: usize = 99;
 
 /// Why no messages make an itinerary of another: words with a blank between two of them.
 #[derive(Drop)]
-pub(crate) struct Reason {
+pub(crate) struct UnsaidReason {
     words: Vec<u8>,
 }
 
-impl Model for Reason {
+impl Model for UnsaidReason {
     ghost use Rattle.std.specs.Prelude.{List, ℕ};
 
     ghost Value = { List ℕ };
@@ -38,12 +38,12 @@ impl Model for Reason {
     ghost view = { λ r. r.words.items };
 }
 
-impl Reason {
+impl UnsaidReason {
     /// The reason with these words.
-    pub(crate) fn of(words: Vec<u8>) -> Reason
+    pub(crate) fn of(words: Vec<u8>) -> UnsaidReason
         ensures { result ≡ words.items }
     {
-        Reason { words }
+        UnsaidReason { words }
     }
 
     /// Its words.
@@ -54,7 +54,7 @@ impl Reason {
     }
 }
 
-impl SaidOfDay for Reason {
+impl SaidOfDay for UnsaidReason {
     ghost Sayable = { λ _. ⊤ };
 
     fn of_day(
@@ -65,7 +65,7 @@ impl SaidOfDay for Reason {
     ) -> Result<Option<Self>, Memory> {
         let old = difference.old.legs();
         let words = words_of(alloc, rows, day, old, difference.new.legs())?;
-        Ok(Some(Reason { words }))
+        Ok(Some(UnsaidReason { words }))
     }
 
     fn is_same(&self, other: &Self) -> bool {

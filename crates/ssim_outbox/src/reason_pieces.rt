@@ -5,7 +5,7 @@ ghost use Rattle.ssim_outbox.specs.Unsaid.{GiveReasons};
 ghost use Rattle.ssim_outbox.specs.internal.Marked.{AreMarked, HaveReasons, is_among};
 
 use crate::mark::{Mark, OtherMark};
-use crate::reason::Reason;
+use crate::reason::UnsaidReason;
 use crate::said_days::{SaidPeriods, said_periods};
 use ssim_base::StationRow;
 use ssim_difference::Difference;
@@ -20,10 +20,10 @@ pub(crate) fn reason_pieces(
     alloc: Global,
     rows: &[StationRow],
     pieces: &[(Period, Difference)],
-) -> Result<Vec<(Period, Reason)>, Memory>
+) -> Result<Vec<(Period, UnsaidReason)>, Memory>
     ensures { IfOk result (λ found. GiveReasons (is_among pieces.now) found.items) }
 {
-    let found: SaidPeriods<Reason> = said_periods(alloc, rows, pieces)?;
+    let found: SaidPeriods<UnsaidReason> = said_periods(alloc, rows, pieces)?;
     let mut marks = marked(alloc, pieces)?;
     mark_others(&mut marks, &found.periods)?;
     let periods = marks.pieces()?;
@@ -55,9 +55,9 @@ fn mark_others(marks: &mut Periods<Mark>, periods: &[(Period, Mark)]) -> Result<
 // The periods of marks, each with the reason of its mark.
 fn with_reasons(
     alloc: Global,
-    reasons: &[Reason],
+    reasons: &[UnsaidReason],
     periods: &[(Period, Mark)],
-) -> Result<Vec<(Period, Reason)>, Memory>
+) -> Result<Vec<(Period, UnsaidReason)>, Memory>
     ensures { IfOk result (λ found. HaveReasons periods.now found.items) }
 {
     let mut found = Vec::new(alloc);
@@ -69,7 +69,7 @@ fn with_reasons(
 }
 
 // The reason with the number of a mark; `other` if there is none.
-fn reason_of(alloc: Global, reasons: &[Reason], mark: &Mark) -> Result<Reason, Memory>
+fn reason_of(alloc: Global, reasons: &[UnsaidReason], mark: &Mark) -> Result<UnsaidReason, Memory>
     ensures { IfOk result (λ reason. 1 ≤ length reason) }
 {
     let mut words = Vec::new(alloc);
@@ -79,5 +79,5 @@ fn reason_of(alloc: Global, reasons: &[Reason], mark: &Mark) -> Result<Reason, M
     if words.is_empty() {
         words.extend_from_slice(b"other")?;
     }
-    Ok(Reason::of(words))
+    Ok(UnsaidReason::of(words))
 }

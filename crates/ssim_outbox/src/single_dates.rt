@@ -9,7 +9,7 @@ ghost use Rattle.ssim_outbox.specs.internal.Drafts.{dates_of_flights, dates_of_p
 ghost use Rattle.ssim_outbox.specs.internal.Drafts.{dates_of_pieces, one_date};
 
 use crate::date_actions::say;
-use crate::draft::Draft;
+use crate::draft::PlanDraft;
 use crate::flight_change::FlightChange;
 use crate::held_days::holds_number;
 use crate::single_period::period_of;
@@ -23,7 +23,7 @@ use std::alloc::Global;
 pub(crate) fn settle_flights(
     alloc: Global,
     rows: &[StationRow],
-    draft: &mut Draft,
+    draft: &mut PlanDraft,
     from: &Schedule,
     to: &Schedule,
     flights: &[FlightDifference],
@@ -43,7 +43,7 @@ pub(crate) fn settle_flights(
 fn settle_pieces(
     alloc: Global,
     rows: &[StationRow],
-    draft: &mut Draft,
+    draft: &mut PlanDraft,
     change: &FlightChange,
     pieces: &[(Period, Difference)],
 ) -> Result<(), Memory>
@@ -62,7 +62,7 @@ fn settle_pieces(
 fn settle_period(
     alloc: Global,
     rows: &[StationRow],
-    draft: &mut Draft,
+    draft: &mut PlanDraft,
     change: &FlightChange,
     period: Period,
 ) -> Result<(), Memory>
@@ -83,7 +83,7 @@ fn settle_period(
 fn settle_number(
     alloc: Global,
     rows: &[StationRow],
-    draft: &mut Draft,
+    draft: &mut PlanDraft,
     change: &FlightChange,
     period: Period,
     number: u16,
@@ -105,7 +105,7 @@ fn settle_number(
 pub(crate) fn settle_date(
     alloc: Global,
     rows: &[StationRow],
-    draft: &mut Draft,
+    draft: &mut PlanDraft,
     change: &FlightChange,
     day: Day,
 ) -> Result<(), Memory>

@@ -9,7 +9,7 @@ ghost use Rattle.ssim_difference.specs.Differences.{differences};
 ghost use Rattle.ssim_outbox.specs.Unsaid.{AreUnsaidLines, unsaid_line};
 ghost use Rattle.ssim_outbox.specs.internal.AddedLines.{AddFlights, AddsFlight};
 
-use crate::reason::Reason;
+use crate::reason::UnsaidReason;
 use crate::reason_pieces::reason_pieces;
 use ssim_base::StationRow;
 use ssim_difference::FlightDifference;
@@ -75,7 +75,7 @@ fn push_flight(
     push_each(lines, &named, &pieces)
 }
 
-impl Printed<Named<'_>> for (Period, Reason) {
+impl Printed<Named<'_>> for (Period, UnsaidReason) {
     ghost text = { λ named piece. unsaid_line named.name.now piece };
 
     fn print(&self, named: &Named<'_>, lines: &mut Vec<u8>) -> Result<(), Memory> {

@@ -15,7 +15,7 @@ use Rattle.ssim_schedule.specs.FlightPieces.{Divided}
 use Rattle.ssim_listing.specs.Lines.{flight_name}
 use Rattle.ssim_calendar.specs.Letters.{letter_at, new_values, place_of}
 use Rattle.ssim_page.specs.Html.{cell, cell_line, escaped, escaped_byte}
-use Rattle.ssim_page.specs.declared.heading.Heading.{Heading}
+use Rattle.ssim_page.specs.declared.heading.PageHeading.{PageHeading}
 
 -- ---- a leg
 
@@ -112,19 +112,19 @@ mode_text Utc = codes "UTC"
 mode_text Local = codes "local times"
 
 -- the airline, the season and the time mode
-unfoldable pub title : Heading → List ℕ
+unfoldable pub title : PageHeading → List ℕ
 title heading =
     airline_text heading.airline ++ codes " " ++ escaped heading.season ++ codes ", "
     ++ mode_text heading.time_mode
 
 -- the title of the document
-unfoldable pub document_title : Heading → List ℕ
+unfoldable pub document_title : PageHeading → List ℕ
 document_title heading =
     codes "<!DOCTYPE html>\n<html lang=\"en\">\n<head>\n<meta charset=\"utf-8\">\n<title>"
     ++ title heading ++ codes "</title>\n"
 
 -- the same as the first line that is shown
-unfoldable pub shown_title : Heading → List ℕ
+unfoldable pub shown_title : PageHeading → List ℕ
 shown_title heading = codes "</head>\n<body>\n<h1>" ++ title heading ++ codes "</h1>\n"
 
 -- the end of the document
@@ -133,7 +133,7 @@ document_end = codes "</body>\n</html>\n"
 
 -- The bytes are a page with this heading and the sections of these flights. How it looks, and what
 -- its box for words does, are not specified.
-pub record IsPage (heading : Heading) (flights : List Divided) (bytes : List ℕ) : Type 0 where
+pub record IsPage (heading : PageHeading) (flights : List Divided) (bytes : List ℕ) : Type 0 where
   pub style : List ℕ
   pub words : List ℕ
   pub script : List ℕ

@@ -11,7 +11,7 @@ use std::io::Write;
 
 /// What the page is of: its title.
 #[derive(Clone, Copy, Debug)]
-pub struct Heading {
+pub struct PageHeading {
     pub airline: Airline,
     /// Columns 11 to 13 of the carrier record.
     pub season: [u8; 3],
@@ -20,7 +20,7 @@ pub struct Heading {
 
 /// Adds the airline, the season and the time mode.
 #[tactic(auto, unfolding(crate::specs::Page::title))]
-pub(crate) fn push_title(page: &mut Vec<u8>, heading: &Heading) -> Result<(), Memory>
+pub(crate) fn push_title(page: &mut Vec<u8>, heading: &PageHeading) -> Result<(), Memory>
     ensures { OnOk result (page.new.items ≡ page.old.items ++ title heading.now) }
 {
     push_airline(page, heading.airline)?;

@@ -3,7 +3,7 @@
 //! - [`page_of`]: the page of an airline's flights. Each flight has a section with a row for each
 //!   of its periods: a letter for its itinerary, the first and the last day, seven boxes for the
 //!   days of operation, the route with its times, and the aircraft types.
-//! - [`Heading`]: the airline, the season and the time mode, which are the page's title.
+//! - [`PageHeading`]: the airline, the season and the time mode, which are the page's title.
 //!
 //! The flights are those that `ssim_schedule` gives, each with its pieces: the periods of the
 //! export. The letters are those of the flight's calendar. All text of the data set is escaped, so
@@ -20,6 +20,6 @@ mod look;
 mod page;
 mod row;
 
-pub use heading::Heading;
+pub use heading::PageHeading;
 pub use page::page_of;
 pub use ssim_values::Memory;

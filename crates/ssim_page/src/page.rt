@@ -5,7 +5,7 @@ ghost use Rattle.ssim_listing.specs.Lines.{flight_name};
 ghost use Rattle.ssim_page.specs.Page.{IsPage, document_end, document_title, letter_of, row, rows};
 ghost use Rattle.ssim_page.specs.Page.{section, section_title, sections, shown_title};
 
-use crate::heading::{Heading, push_title};
+use crate::heading::{PageHeading, push_title};
 use crate::itineraries::{letter_of, lettered};
 use crate::look::{BOX, SCRIPT, STYLE};
 use crate::row::push_row;
@@ -32,7 +32,7 @@ struct Letters<'a> {
 /// of its pieces.
 pub fn page_of(
     alloc: Global,
-    heading: &Heading,
+    heading: &PageHeading,
     flights: &[FlightPieces],
 ) -> Result<Vec<u8>, Memory>
     ensures { IfOk result (λ page. IsPage heading.now flights.now page.items) }
@@ -50,7 +50,7 @@ pub fn page_of(
 
 // Adds the title of the document.
 #[tactic(auto, unfolding(crate::specs::Page::document_title))]
-fn push_document_title(page: &mut Vec<u8>, heading: &Heading) -> Result<(), Memory>
+fn push_document_title(page: &mut Vec<u8>, heading: &PageHeading) -> Result<(), Memory>
     ensures { OnOk result (page.new.items ≡ page.old.items ++ document_title heading.now) }
 {
     page.extend_from_slice(
@@ -63,7 +63,7 @@ fn push_document_title(page: &mut Vec<u8>, heading: &Heading) -> Result<(), Memo
 
 // Adds the same as the first line that is shown.
 #[tactic(auto, unfolding(crate::specs::Page::shown_title))]
-fn push_shown_title(page: &mut Vec<u8>, heading: &Heading) -> Result<(), Memory>
+fn push_shown_title(page: &mut Vec<u8>, heading: &PageHeading) -> Result<(), Memory>
     ensures { OnOk result (page.new.items ≡ page.old.items ++ shown_title heading.now) }
 {
     page.extend_from_slice(b"</head>\n<body>\n<h1>")?;

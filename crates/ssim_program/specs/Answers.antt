@@ -21,7 +21,7 @@ use Rattle.ssim_outbox.specs.Comparable.{RefusesCarriers}
 use Rattle.ssim_outbox.specs.Publication.{Publishes, RefusesPublication}
 use Rattle.ssim_outbox.specs.declared.fault.OutboxFault.{OutboxFault}
 use Rattle.ssim_page.specs.Page.{IsPage}
-use Rattle.ssim_page.specs.declared.heading.Heading.{Heading}
+use Rattle.ssim_page.specs.declared.heading.PageHeading.{PageHeading}
 use Rattle.ssim_command_line.specs.Line.{Line, Text, Check, Problems, Tidy, Start, Take, Merge, Withdraw}
 use Rattle.ssim_command_line.specs.Line.{Receive, Texts, Show, History, Calendar, Findings, Export}
 use Rattle.ssim_command_line.specs.Line.{Rehearse, Explain, Page, Board, Diff, Publish, Listing}
@@ -193,7 +193,7 @@ calendar files file word = do
       × (lines ≡ calendar_lines flight (days_of_desk desk flight.flight)))
 
 -- the airline, the season in columns 11 to 13, and the time mode of a carrier record
-abbrev pub heading_of : CarrierFields → Heading
+abbrev pub heading_of : CarrierFields → PageHeading
 heading_of r = record {
   airline = r.airline;
   season = slice_range r.season 5 8;

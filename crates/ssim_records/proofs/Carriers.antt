@@ -5,7 +5,7 @@ use Rattle.std.specs.List.{AllZip}
 use Rattle.ssim_values.specs.Airline.{is_airline}
 use Rattle.ssim_values.specs.Day.{day_of, day_text}
 use Rattle.ssim_values.proofs.DayLaws.{day_of-day_text}
-use Rattle.ssim_columns.specs.declared.field.Kind.TheVariants.{Carried, AirlineCode}
+use Rattle.ssim_columns.specs.declared.field.FieldKind.TheVariants.{Carried, AirlineCode}
 use Rattle.ssim_values.specs.declared.time_mode.TimeMode.{TimeMode}
 use Rattle.ssim_values.specs.declared.time_mode.TimeMode.TheVariants.{Utc, Local}
 use Rattle.ssim_columns.specs.Numbers.{digits_of, digits}

@@ -6,8 +6,8 @@ use Rattle.std.specs.Io.KnownBytes.{IsAtEnd}
 use Rattle.std.proofs.Math.Nat.{mod-add-mod}
 use Rattle.std.proofs.lemmas.List.{length-append, append-nil}
 use Rattle.std.proofs.lemmas.Bool.Decides.{nat_tests}
-use Rattle.ssim_records.specs.declared.blocks.Stop.{Stop}
-use Rattle.ssim_records.specs.declared.blocks.Stop.TheVariants.{Short, ReadFault, ReaderNeverEnds}
+use Rattle.ssim_records.specs.declared.blocks.BlockStop.{BlockStop}
+use Rattle.ssim_records.specs.declared.blocks.BlockStop.TheVariants.{Short, ReadFault, ReaderNeverEnds}
 use Rattle.ssim_records.specs.declared.device.DeviceFault.{DeviceFault}
 use Rattle.ssim_records.specs.clauses.Device.{CountChanges}
 use Rattle.ssim_records.specs.Frames.{trim, Frames, others, is_fill}
@@ -301,7 +301,7 @@ one_more limit n n1 came came1 came2 held held1 held2 (Some x) (Some y) (Some z)
 )
 
 -- the number of the result
-abbrev pub Counts : ℕ → ℕ → Result (Option (List ℕ)) Stop → Type 0
+abbrev pub Counts : ℕ → ℕ → Result (Option (List ℕ)) BlockStop → Type 0
 Counts n n' (Ok None) = n' ≡ n
 Counts n n' (Ok (Some block)) = (n' ≡ n + 1) × (is_fill block ≡ false)
 Counts n n' (Err e) = n' ≡ n
@@ -312,7 +312,7 @@ few_empty over b e = omega (arith, ap length e)
 none_left : (n n1 n2 : ℕ) (blocks later : List (List ℕ)) → others n blocks ≡ others n1 later → n1 + length later ≡ n + length blocks → later ≡ [] → n2 ≡ n1 → (others n blocks ≡ []) × (n2 ≡ n + length blocks)
 none_left n n1 n2 blocks later same count e is = (same ∙ ap (others n1) e, omega (arith, count, ap length e, is))
 
-pub gives_other : (limit n n1 n2 came came1 came2 : ℕ) (held held1 held2 : List ℕ) (l l1 l2 : Option (List ℕ)) (r : Result (Option (List ℕ)) Stop) → Skipped limit n came held l n1 came1 held1 l1 → GivesBlock limit (nat_lt 0 n1) came1 held1 l1 came2 held2 l2 r → Counts n1 n2 r → GivesOther limit n came held l n2 came2 held2 l2 r
+pub gives_other : (limit n n1 n2 came came1 came2 : ℕ) (held held1 held2 : List ℕ) (l l1 l2 : Option (List ℕ)) (r : Result (Option (List ℕ)) BlockStop) → Skipped limit n came held l n1 came1 held1 l1 → GivesBlock limit (nat_lt 0 n1) came1 held1 l1 came2 held2 l2 r → Counts n1 n2 r → GivesOther limit n came held l n2 came2 held2 l2 r
 gives_other limit n n1 n2 came came1 came2 held held1 held2 None l1 l2 r s b c = tt
 gives_other limit n n1 n2 came came1 came2 held held1 held2 (Some x) None l2 r s b c = absurd s
 gives_other limit n n1 n2 came came1 came2 held held1 held2 (Some x) (Some y) None r s b c = b

@@ -2,7 +2,7 @@
 use Rattle.std.proofs.Common.{◌≡◌, ℕ, List, [], ◌∷◌, length, Some, None, refl, sym, ap, ◌∙◌}
 use Rattle.std.specs.Prelude.{codes}
 use Rattle.std.specs.List.{AllZip}
-use Rattle.ssim_columns.specs.declared.field.Kind.TheVariants.{Carried, Title}
+use Rattle.ssim_columns.specs.declared.field.FieldKind.TheVariants.{Carried, Title}
 use Rattle.ssim_columns.specs.Numbers.{digits_of, digits}
 use Rattle.ssim_columns.specs.Columns.{columns, fault_in, title, is_title}
 use Rattle.ssim_records.specs.Header.{HeaderFields, IsHeader, SpellsHeader, header_texts, written_header}

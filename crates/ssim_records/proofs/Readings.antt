@@ -1,7 +1,7 @@
 -- The result of a reading, from the next block that is not fill.
 use Rattle.std.proofs.Common.{◌≡◌, ℕ, List, Option, Some, None, Ok, Err, refl}
 use Rattle.std.specs.Prelude.{Result, slice_index}
-use Rattle.ssim_records.specs.declared.blocks.Stop.{Stop}
+use Rattle.ssim_records.specs.declared.blocks.BlockStop.{BlockStop}
 use Rattle.ssim_records.specs.declared.fault.RecordFault.{RecordFault}
 use Rattle.ssim_records.specs.declared.fault.RecordFault.TheVariants.{Short, BadType, BadColumn, ReadFault, ReaderNeverEnds}
 use Rattle.ssim_columns.specs.declared.field.Field.{Field}
@@ -52,7 +52,7 @@ refused_holds n held (ReaderNeverEnds m) h = tt
 -- ---- results
 
 -- what the blocks of a reading give
-abbrev pub Gives : Reading → Option (List ℕ) → Reading → Option (List ℕ) → Result (Option (List ℕ)) Stop → Type 0
+abbrev pub Gives : Reading → Option (List ℕ) → Reading → Option (List ℕ) → Result (Option (List ℕ)) BlockStop → Type 0
 Gives old left new left' r = GivesOther old.limit old.number old.came old.held left new.number new.came new.held left' r
 
 pub gives_record : (old new : Reading) (l l' : Option (List ℕ)) (block : List ℕ) (r : Record) → new.limit ≡ old.limit → Gives old l new l' (Ok (Some block)) → Spells r block → GivesNext old l new l' (Ok (Some (new.number, r)))

@@ -3,7 +3,7 @@ use Rattle.std.proofs.Common.{◌≡◌, ℕ, List, [], ◌∷◌, length, Some,
 use Rattle.std.specs.Prelude.{codes}
 use Rattle.std.specs.List.{AllZip}
 use Rattle.ssim_values.specs.Airline.{is_airline}
-use Rattle.ssim_columns.specs.declared.field.Kind.TheVariants.{Carried, AirlineCode}
+use Rattle.ssim_columns.specs.declared.field.FieldKind.TheVariants.{Carried, AirlineCode}
 use Rattle.ssim_columns.specs.declared.field.end_code.EndCode.{EndCode}
 use Rattle.ssim_columns.specs.declared.field.end_code.EndCode.TheVariants.{Continuation, End}
 use Rattle.ssim_columns.specs.Numbers.{digits_of, digits}

@@ -1,7 +1,7 @@
 -- Header records, type 1.
 use Rattle.std.specs.Prelude.{ℕ, ◌≡◌, ◌<◌, IsTrue, List, [], ◌∷◌, length, codes, Some}
 use Rattle.std.specs.List.{concat, list_all}
-use Rattle.ssim_columns.specs.declared.field.Kind.TheVariants.{Carried, Digits, Title}
+use Rattle.ssim_columns.specs.declared.field.FieldKind.TheVariants.{Carried, Digits, Title}
 use Rattle.ssim_columns.specs.declared.field.Field.{Field}
 use Rattle.ssim_columns.specs.Numbers.{digits_of, digits}
 use Rattle.ssim_columns.specs.Columns.{columns, field, is_carried, title, EachIsValid}

@@ -2,7 +2,7 @@
 use Rattle.std.specs.Prelude.{ℕ, ◌≡◌, ◌<◌, IsTrue, List, [], ◌∷◌, length, codes, Some}
 use Rattle.std.specs.List.{concat, list_all}
 use Rattle.ssim_values.specs.Airline.{is_airline}
-use Rattle.ssim_columns.specs.declared.field.Kind.TheVariants.{AirlineCode, Carried, Digits, Code}
+use Rattle.ssim_columns.specs.declared.field.FieldKind.TheVariants.{AirlineCode, Carried, Digits, Code}
 use Rattle.ssim_columns.specs.declared.field.Field.{Field}
 use Rattle.ssim_columns.specs.declared.field.end_code.EndCode.{EndCode}
 use Rattle.ssim_columns.specs.Numbers.{digits_of, digits}

@@ -2,7 +2,7 @@
 
 ghost use Rattle.std.specs.Prelude.{◌≡◌, ◌<◌, ◌≤◌, ◌+◌, ◌*◌, [], OnOk, length, nat_lt, Ok, Err, true, false};
 ghost use Rattle.std.specs.Io.KnownBytes.{IsAtEnd};
-ghost use Rattle.ssim_records.specs.declared.blocks.Stop.TheVariants.{ReaderNeverEnds};
+ghost use Rattle.ssim_records.specs.declared.blocks.BlockStop.TheVariants.{ReaderNeverEnds};
 ghost use Rattle.ssim_records.specs.Frames.{is_fill};
 ghost use Rattle.ssim_records.specs.clauses.Blocks.{CameOn, CountsOn, Fetches, StaysLeft};
 ghost use Rattle.ssim_records.specs.internal.Blocks.{behind_front, with_front, FailsAtRest};
@@ -16,21 +16,21 @@ use std::marker::Model;
 
 /// Why no block came.
 #[derive(Clone, Copy, Debug, PartialEq, Eq)]
-pub enum Stop {
+pub enum BlockStop {
     Short,
     ReadFault,
     ReaderNeverEnds,
 }
 
-impl Stop {
+impl BlockStop {
     /// The refusal of the record of this number, of which no block came.
     pub(crate) fn refusal_of(self, number: u64) -> RecordFault
         ensures { result ≡ refusal_of self number }
     {
         match self {
-            Stop::Short => RecordFault::Short { record: number },
-            Stop::ReadFault => RecordFault::ReadFault { record: number },
-            Stop::ReaderNeverEnds => RecordFault::ReaderNeverEnds { record: number },
+            BlockStop::Short => RecordFault::Short { record: number },
+            BlockStop::ReadFault => RecordFault::ReadFault { record: number },
+            BlockStop::ReaderNeverEnds => RecordFault::ReaderNeverEnds { record: number },
         }
     }
 }
@@ -54,7 +54,7 @@ fn next_block<R: Source>(
     limit: u64,
     after_block: bool,
     reader: &mut R,
-) -> Result<bool, Stop>
+) -> Result<bool, BlockStop>
     requires { came.old ≤ limit + 1 }
     ensures came { came.new ≤ limit + 1 }
     ensures held { length window.new + came.old ≤ length window.old + came.new }
@@ -78,16 +78,16 @@ fn next_block<R: Source>(
             return Ok(true);
         }
         if *came > limit as u128 {
-            return Err(Stop::ReaderNeverEnds);
+            return Err(BlockStop::ReaderNeverEnds);
         }
         let room = (limit as u128 + 1 - *came).min(ROOM as u128) as usize;
         match window.fetch(reader, room) {
-            Err(_) => return Err(Stop::ReadFault),
+            Err(_) => return Err(BlockStop::ReadFault),
             Ok(0) => {
                 if window.len() == 0 {
                     return Ok(false);
                 }
-                return Err(Stop::Short);
+                return Err(BlockStop::Short);
             }
             Ok(n) => *came += n as u128,
         }
@@ -115,7 +115,7 @@ pub fn next_other<R: Source>(
     number: &mut u64,
     limit: u64,
     reader: &mut R,
-) -> Result<bool, Stop>
+) -> Result<bool, BlockStop>
     requires came { came.old ≤ limit + 1 }
     requires counted { 200 * number.old + length window.old ≤ came.old }
     ensures came { came.new ≤ limit + 1 }
@@ -153,7 +153,7 @@ pub fn skip_rest<R: Source>(
     came: &mut u128,
     limit: u64,
     reader: &mut R,
-) -> Result<(), Stop>
+) -> Result<(), BlockStop>
     requires { came.old ≤ limit + 1 }
     ensures came { came.new ≤ limit + 1 }
     ensures more { came.old ≤ came.new }
@@ -168,11 +168,11 @@ pub fn skip_rest<R: Source>(
     loop {
         window.clear();
         if *came > limit as u128 {
-            return Err(Stop::ReaderNeverEnds);
+            return Err(BlockStop::ReaderNeverEnds);
         }
         let room = (limit as u128 + 1 - *came).min(ROOM as u128) as usize;
         match window.fetch(reader, room) {
-            Err(_) => return Err(Stop::ReadFault),
+            Err(_) => return Err(BlockStop::ReadFault),
             Ok(0) => return Ok(()),
             Ok(n) => *came += n as u128,
         }

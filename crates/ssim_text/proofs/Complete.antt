@@ -18,8 +18,8 @@ use Rattle.ssim_text.specs.declared.action.NewLegs.{NewLegs}
 use Rattle.ssim_text.specs.declared.action.Action.{Action}
 use Rattle.ssim_text.specs.declared.action.Action.TheVariants as action
 use Rattle.ssim_text.specs.declared.action.Sub.{Sub}
-use Rattle.ssim_text.specs.declared.decoder_state.Change.{Change}
-use Rattle.ssim_text.specs.declared.decoder_state.Change.TheVariants as change
+use Rattle.ssim_text.specs.declared.decoder_state.LegChange.{LegChange}
+use Rattle.ssim_text.specs.declared.decoder_state.LegChange.TheVariants as change
 use Rattle.ssim_text.specs.declared.decoder_state.Body.{Body}
 use Rattle.ssim_text.specs.declared.decoder_state.State.{State}
 use Rattle.ssim_text.specs.declared.decoder_state.State.TheVariants.{AtStart, AtMode, AtAction, AtLegs, AtEnd, AtNext, AtFree}
@@ -41,7 +41,7 @@ less a b h = lt-ltb a b h
 both : (a b : Bool) → a ≡ true → b ≡ true → a && b ≡ true
 both a b h k = rw (h, k) refl
 
-abbrev pub body_of : Designator → Dates → Change → List LegLine → List SegmentLine → Body
+abbrev pub body_of : Designator → Dates → LegChange → List LegLine → List SegmentLine → Body
 body_of d dates c legs segments = record { designator = d; dates = dates; change = c; legs = legs; segments = segments }
 
 -- one step on
@@ -51,7 +51,7 @@ step_on s t p qs h = ap (λ (o : Option State). option_and_then (λ x. run x qs)
 length-one_more : {A : Type 0} (xs : List A) (x : A) → length (xs ++ x ∷ []) ≡ length xs + 1
 length-one_more xs x = length_push xs x
 
-run_legs : (m : MessageValue) (d : Designator) (dates : Dates) (c : Change) (more legs : List LegLine) (qs : List Part) → length legs + length more ≤ 20
+run_legs : (m : MessageValue) (d : Designator) (dates : Dates) (c : LegChange) (more legs : List LegLine) (qs : List Part) → length legs + length more ≤ 20
     → run (AtLegs m (body_of d dates c legs [])) (map LegPart more ++ qs) ≡ run (AtLegs m (body_of d dates c (legs ++ more) [])) qs
 run_legs m d dates c [] legs qs h = ap (λ (x : List LegLine). run (AtLegs m (body_of d dates c x [])) qs) (sym (append_none legs))
 run_legs m d dates c (leg ∷ more) legs qs h =
@@ -61,7 +61,7 @@ run_legs m d dates c (leg ∷ more) legs qs h =
     ∙ run_legs m d dates c more (legs ++ leg ∷ []) qs le
     ∙ ap (λ (x : List LegLine). run (AtLegs m (body_of d dates c x [])) qs) (append_assoc legs (leg ∷ []) more)
 
-run_segments : (m : MessageValue) (d : Designator) (dates : Dates) (c : Change) (legs : List LegLine) (more segments : List SegmentLine) (qs : List Part) → has_segments c ≡ true → length segments + length more ≤ 99 → AllByRecursion (λ s. flies legs s ≡ true) more
+run_segments : (m : MessageValue) (d : Designator) (dates : Dates) (c : LegChange) (legs : List LegLine) (more segments : List SegmentLine) (qs : List Part) → has_segments c ≡ true → length segments + length more ≤ 99 → AllByRecursion (λ s. flies legs s ≡ true) more
     → run (AtLegs m (body_of d dates c legs segments)) (map SegmentPart more ++ qs) ≡ run (AtLegs m (body_of d dates c legs (segments ++ more))) qs
 run_segments m d dates c legs [] segments qs has h f = ap (λ (x : List SegmentLine). run (AtLegs m (body_of d dates c legs x)) qs) (sym (append_none segments))
 run_segments m d dates c legs (s ∷ more) segments qs has h f =
@@ -81,7 +81,7 @@ ended m d dates (action.Rpl new) = AtLegs m (body_of d dates (change.Rpl new.equ
 ended m d dates (action.Eqt e) = AtEnd (with_sub m (sub_of d dates (action.Eqt e)))
 ended m d dates (action.Tim legs) = AtLegs m (body_of d dates change.Tim legs [])
 
-run_new : (m : MessageValue) (d : Designator) (dates : Dates) (c : Change) (new : NewLegs) (qs : List Part) → has_segments c ≡ true → IsNewLegs new
+run_new : (m : MessageValue) (d : Designator) (dates : Dates) (c : LegChange) (new : NewLegs) (qs : List Part) → has_segments c ≡ true → IsNewLegs new
     → run (AtLegs m (body_of d dates c [] [])) ((map LegPart new.legs ++ map SegmentPart new.segments) ++ qs) ≡ run (AtLegs m (body_of d dates c new.legs new.segments)) qs
 run_new m d dates c new qs has h =
     ap (λ (x : List Part). run (AtLegs m (body_of d dates c [] [])) x) (append_assoc (map LegPart new.legs) (map SegmentPart new.segments) qs)

@@ -19,8 +19,8 @@ use Rattle.ssim_text.specs.declared.dates.Dates.TheVariants.{Period, Date}
 use Rattle.ssim_text.specs.declared.leg.LegLine.{LegLine}
 use Rattle.ssim_text.specs.declared.segment.SegmentLine.{SegmentLine}
 use Rattle.ssim_text.specs.declared.action.Action.TheVariants as action
-use Rattle.ssim_text.specs.declared.decoder_state.Change.{Change}
-use Rattle.ssim_text.specs.declared.decoder_state.Change.TheVariants as change
+use Rattle.ssim_text.specs.declared.decoder_state.LegChange.{LegChange}
+use Rattle.ssim_text.specs.declared.decoder_state.LegChange.TheVariants as change
 use Rattle.ssim_text.specs.declared.decoder_state.Equipped.{Equipped}
 use Rattle.ssim_text.specs.declared.decoder_state.Equipped.TheVariants as equipped
 use Rattle.ssim_text.specs.declared.decoder_state.Body.{Body}
@@ -179,7 +179,7 @@ one_more s t p line lines d h w = record {
   finished = w.finished;
 }
 
-no_legs_tail : (m : MessageValue) (d : Designator) (dates : Dates) (c : Change) → Tail (AtLegs m (no_legs d dates c)) (codes "ZRH0000 LHR0000" ∷ [])
+no_legs_tail : (m : MessageValue) (d : Designator) (dates : Dates) (c : LegChange) → Tail (AtLegs m (no_legs d dates c)) (codes "ZRH0000 LHR0000" ∷ [])
 no_legs_tail m d dates c =
     one_more (AtLegs m (no_legs d dates c)) (AtLegs m (with_leg (no_legs d dates c) a_leg)) (LegPart a_leg) (codes "ZRH0000 LHR0000") [] refl leg_line
     (done (AtLegs m (with_leg (no_legs d dates c) a_leg)) (with_body m (with_leg (no_legs d dates c) a_leg)) refl)
@@ -239,7 +239,7 @@ whole_finish m b h = rw h refl
 legs_there : (l : LegLine) (legs : List LegLine) → nat_lt 0 (length (l ∷ legs)) ≡ true
 legs_there l legs = lt-ltb 0 (length (l ∷ legs)) (omega arith)
 
-legs_complete : (m : MessageValue) (d : Designator) (dates : Dates) (c : Change) (legs : List LegLine) (segments : List SegmentLine) → AllByRecursion (λ s. flies legs s ≡ true) segments → Completes (AtLegs m (record { designator = d; dates = dates; change = c; legs = legs; segments = segments }))
+legs_complete : (m : MessageValue) (d : Designator) (dates : Dates) (c : LegChange) (legs : List LegLine) (segments : List SegmentLine) → AllByRecursion (λ s. flies legs s ≡ true) segments → Completes (AtLegs m (record { designator = d; dates = dates; change = c; legs = legs; segments = segments }))
 legs_complete m d dates c [] [] h = by_tail (AtLegs m (no_legs d dates c)) 6 Ssm identifier.Tim (codes "ZRH0000 LHR0000" ∷ []) refl (no_legs_tail m d dates c)
 legs_complete m d dates c [] (s ∷ segments) h = absurd (false_true h.0)
 legs_complete m d dates c (l ∷ legs) segments h =

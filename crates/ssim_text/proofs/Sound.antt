@@ -18,8 +18,8 @@ use Rattle.ssim_text.specs.declared.leg.LegLine.{LegLine}
 use Rattle.ssim_text.specs.declared.segment.SegmentLine.{SegmentLine}
 use Rattle.ssim_text.specs.declared.action.Action.TheVariants as action
 use Rattle.ssim_text.specs.declared.action.Sub.{Sub}
-use Rattle.ssim_text.specs.declared.decoder_state.Change.{Change}
-use Rattle.ssim_text.specs.declared.decoder_state.Change.TheVariants as change
+use Rattle.ssim_text.specs.declared.decoder_state.LegChange.{LegChange}
+use Rattle.ssim_text.specs.declared.decoder_state.LegChange.TheVariants as change
 use Rattle.ssim_text.specs.declared.decoder_state.Equipped.{Equipped}
 use Rattle.ssim_text.specs.declared.decoder_state.Equipped.TheVariants as equipped
 use Rattle.ssim_text.specs.declared.decoder_state.Body.{Body}
@@ -198,14 +198,14 @@ behind_flight : (a : ActionIdentifier) (d : Designator) (dates : Dates) (body lo
     → (ActionPart a ∷ (flight_parts d dates ++ body)) ++ p ∷ [] ≡ ActionPart a ∷ (flight_parts d dates ++ longer)
 behind_flight a d dates body longer p e = ap (λ (x : List Part). ActionPart a ∷ x) (append_assoc (flight_parts d dates) body (p ∷ []) ∙ ap (λ (x : List Part). flight_parts d dates ++ x) e)
 
-sub_leg : (d : Designator) (dates : Dates) (c : Change) (legs : List LegLine) (segments : List SegmentLine) (leg : LegLine) → is_none_yet segments ≡ true
+sub_leg : (d : Designator) (dates : Dates) (c : LegChange) (legs : List LegLine) (segments : List SegmentLine) (leg : LegLine) → is_none_yet segments ≡ true
     → sub_parts (sub_of d dates (action_of c legs segments)) ++ LegPart leg ∷ [] ≡ sub_parts (sub_of d dates (action_of c (legs ++ leg ∷ []) segments))
 sub_leg d dates c legs (s ∷ segments) leg h = absurd (false_true h)
 sub_leg d dates change.Tim legs [] leg h = behind_flight identifier.Tim d dates (map LegPart legs) (map LegPart (legs ++ leg ∷ [])) (LegPart leg) (sym (map-push LegPart legs leg))
 sub_leg d dates (change.New e) legs [] leg h = behind_flight identifier.New d dates (EquipmentPart e ∷ (map LegPart legs ++ [])) (EquipmentPart e ∷ (map LegPart (legs ++ leg ∷ []) ++ [])) (LegPart leg) (new_leg e legs leg)
 sub_leg d dates (change.Rpl e) legs [] leg h = behind_flight identifier.Rpl d dates (EquipmentPart e ∷ (map LegPart legs ++ [])) (EquipmentPart e ∷ (map LegPart (legs ++ leg ∷ []) ++ [])) (LegPart leg) (new_leg e legs leg)
 
-sub_segment : (d : Designator) (dates : Dates) (c : Change) (legs : List LegLine) (segments : List SegmentLine) (s : SegmentLine) → has_segments c ≡ true
+sub_segment : (d : Designator) (dates : Dates) (c : LegChange) (legs : List LegLine) (segments : List SegmentLine) (s : SegmentLine) → has_segments c ≡ true
     → sub_parts (sub_of d dates (action_of c legs segments)) ++ SegmentPart s ∷ [] ≡ sub_parts (sub_of d dates (action_of c legs (segments ++ s ∷ [])))
 sub_segment d dates change.Tim legs segments s h = absurd (false_true h)
 sub_segment d dates (change.New e) legs segments s h = behind_flight identifier.New d dates (EquipmentPart e ∷ (map LegPart legs ++ map SegmentPart segments)) (EquipmentPart e ∷ (map LegPart legs ++ map SegmentPart (segments ++ s ∷ []))) (SegmentPart s) (new_segment e legs segments s)
@@ -236,7 +236,7 @@ segment_on m b s ps h t =
       record { dates = h.1.dates; legs = h.1.legs; segments = omega (arith, short, length-one_more b.segments s); flown = all-push (λ (x : SegmentLine). flies b.legs x ≡ true) b.segments s h.1.flown v.1 },
     )
 
-is_body : (c : Change) (legs : List LegLine) (segments : List SegmentLine) → 1 ≤ length legs → length legs ≤ 20 → length segments ≤ 99 → AllByRecursion (λ s. flies legs s ≡ true) segments → IsBody (action_of c legs segments)
+is_body : (c : LegChange) (legs : List LegLine) (segments : List SegmentLine) → 1 ≤ length legs → length legs ≤ 20 → length segments ≤ 99 → AllByRecursion (λ s. flies legs s ≡ true) segments → IsBody (action_of c legs segments)
 is_body change.Tim legs segments some few short flown = (some, few)
 is_body (change.New e) legs segments some few short flown = record { some = some; legs = few; segments = short; flown = flown }
 is_body (change.Rpl e) legs segments some few short flown = record { some = some; legs = few; segments = short; flown = flown }

@@ -17,8 +17,8 @@ use Rattle.ssim_text.specs.declared.action.Action.TheVariants as action
 use Rattle.ssim_text.specs.declared.action.Sub.{Sub}
 use Rattle.ssim_text.specs.declared.fault.Fault.{Fault}
 use Rattle.ssim_text.specs.declared.fault.Fault.TheVariants as fault
-use Rattle.ssim_text.specs.declared.decoder_state.Change.{Change}
-use Rattle.ssim_text.specs.declared.decoder_state.Change.TheVariants as change
+use Rattle.ssim_text.specs.declared.decoder_state.LegChange.{LegChange}
+use Rattle.ssim_text.specs.declared.decoder_state.LegChange.TheVariants as change
 use Rattle.ssim_text.specs.declared.decoder_state.Equipped.{Equipped}
 use Rattle.ssim_text.specs.declared.decoder_state.Equipped.TheVariants as equipped
 use Rattle.ssim_text.specs.declared.decoder_state.Body.{Body}
@@ -45,7 +45,7 @@ flight_expected Ssm m a = AtFlight m a
 flight_expected Asm m a = AtDatedFlight m a
 
 -- a sub-message that has no leg line yet
-abbrev pub no_legs : Designator → Dates → Change → Body
+abbrev pub no_legs : Designator → Dates → LegChange → Body
 no_legs d dates change =
     record { designator = d; dates = dates; change = change; legs = []; segments = [] }
 
@@ -81,7 +81,7 @@ abbrev pub takes_leg : Body → Bool
 takes_leg b = is_none_yet b.segments && nat_lt (length b.legs) 20
 
 -- whether the action may have segment lines
-abbrev pub has_segments : Change → Bool
+abbrev pub has_segments : LegChange → Bool
 has_segments change.Tim = false
 has_segments (change.New equipment) = true
 has_segments (change.Rpl equipment) = true
@@ -99,7 +99,7 @@ abbrev pub is_whole : Body → Bool
 is_whole b = nat_lt 0 (length b.legs)
 
 -- the action with these legs and segments
-abbrev pub action_of : Change → List LegLine → List SegmentLine → Action
+abbrev pub action_of : LegChange → List LegLine → List SegmentLine → Action
 action_of change.Tim legs s = action.Tim legs
 action_of (change.New e) legs s = action.New (record { equipment = e; legs = legs; segments = s })
 action_of (change.Rpl e) legs s = action.Rpl (record { equipment = e; legs = legs; segments = s })

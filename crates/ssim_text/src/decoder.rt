@@ -15,13 +15,13 @@ use std::alloc::Global;
 
 /// Why lines are refused: out of memory, or a fault and the index of its line.
 #[derive(Drop)]
-pub(crate) enum Refusal {
+pub(crate) enum LineRefusal {
     NoMemory,
     Misplaced(Fault, usize),
 }
 
 /// The message that the lines spell.
-fn read_lines(alloc: Global, lines: &[Line]) -> Result<Draft, Refusal>
+fn read_lines(alloc: Global, lines: &[Line]) -> Result<Draft, LineRefusal>
     ensures found { IfOk result (λ m. SpellsText m (map (λ l. l.bytes.now) lines.now)) }
     ensures only { IfOk result
         (λ m. (n : MessageValue) → SpellsText n (map (λ l. l.bytes.now) lines.now) → n ≡ m) }
@@ -31,14 +31,14 @@ fn read_lines(alloc: Global, lines: &[Line]) -> Result<Draft, Refusal>
     for (index, line) in lines.iter().enumerate() {
         state = match state.after(alloc, line.bytes) {
             Ok(next) => next,
-            Err(Stop::OutOfMemory) => return Err(Refusal::NoMemory),
-            Err(Stop::Refused(fault)) => return Err(Refusal::Misplaced(fault, index)),
+            Err(Stop::OutOfMemory) => return Err(LineRefusal::NoMemory),
+            Err(Stop::Refused(fault)) => return Err(LineRefusal::Misplaced(fault, index)),
         };
     }
     match state.finish() {
         Ok(draft) => Ok(draft),
-        Err(Stop::OutOfMemory) => Err(Refusal::NoMemory),
-        Err(Stop::Refused(fault)) => Err(Refusal::Misplaced(fault, lines.len())),
+        Err(Stop::OutOfMemory) => Err(LineRefusal::NoMemory),
+        Err(Stop::Refused(fault)) => Err(LineRefusal::Misplaced(fault, lines.len())),
     }
 }
 
@@ -90,8 +90,8 @@ pub fn decode(alloc: Global, text: &[u8]) -> Result<Message, TextFault>
     match read_lines(alloc, lines) {
         // The canonical text is seldom longer than the text with a mode line.
         Ok(draft) => finished(alloc, draft, text.len() + 4),
-        Err(Refusal::NoMemory) => Err(TextFault::Memory),
-        Err(Refusal::Misplaced(fault, index)) => {
+        Err(LineRefusal::NoMemory) => Err(TextFault::Memory),
+        Err(LineRefusal::Misplaced(fault, index)) => {
             Err(TextFault::Refused {
                 fault,
                 line: number_at(lines, index),

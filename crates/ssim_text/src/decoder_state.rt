@@ -48,7 +48,7 @@ pub(crate) enum Equipped {
 
 /// The actions with leg lines, and what was read of them before these.
 #[derive(Drop)]
-pub(crate) enum Change {
+pub(crate) enum LegChange {
     New(Equipment),
     Rpl(Equipment),
     Tim,
@@ -59,7 +59,7 @@ pub(crate) enum Change {
 pub(crate) struct Body {
     designator: Designator,
     dates: Dates,
-    change: Change,
+    change: LegChange,
     legs: Legs,
     segments: Segments,
 }
@@ -83,7 +83,7 @@ impl BoxedBody {
         alloc: Global,
         designator: Designator,
         dates: Dates,
-        change: Change,
+        change: LegChange,
     ) -> Result<BoxedBody, AllocError>
         ensures { IfOk result (λ b. b ≡ no_legs designator dates change) }
     {
@@ -127,8 +127,8 @@ impl BoxedBody {
         ensures { result ≡ fits_segment self.now segment.now }
     {
         match &self.body.change {
-            Change::Tim => false,
-            Change::New(_) | Change::Rpl(_) => flies(self.body.legs.lines(), segment),
+            LegChange::Tim => false,
+            LegChange::New(_) | LegChange::Rpl(_) => flies(self.body.legs.lines(), segment),
         }
     }
 
@@ -162,13 +162,13 @@ impl BoxedBody {
             segments,
         } = Box::into_inner(self.body);
         let action = match change {
-            Change::Tim => Action::Tim(legs),
-            Change::New(equipment) => Action::New(NewLegs {
+            LegChange::Tim => Action::Tim(legs),
+            LegChange::New(equipment) => Action::New(NewLegs {
                 equipment,
                 legs,
                 segments,
             }),
-            Change::Rpl(equipment) => Action::Rpl(NewLegs {
+            LegChange::Rpl(equipment) => Action::Rpl(NewLegs {
                 equipment,
                 legs,
                 segments,
@@ -226,7 +226,7 @@ fn body_expected(
         ActionIdentifier::Eqt => Ok(State::AtEquipment(message, Equipped::Eqt, designator, dates)),
         ActionIdentifier::Tim => Ok(State::AtLegs(
             message,
-            BoxedBody::new(alloc, designator, dates, Change::Tim)?,
+            BoxedBody::new(alloc, designator, dates, LegChange::Tim)?,
         )),
         ActionIdentifier::Cnl => {
             let sub = Sub {
@@ -253,11 +253,11 @@ fn after_equipment(
     match equipped {
         Equipped::New => Ok(State::AtLegs(
             message,
-            BoxedBody::new(alloc, designator, dates, Change::New(equipment))?,
+            BoxedBody::new(alloc, designator, dates, LegChange::New(equipment))?,
         )),
         Equipped::Rpl => Ok(State::AtLegs(
             message,
-            BoxedBody::new(alloc, designator, dates, Change::Rpl(equipment))?,
+            BoxedBody::new(alloc, designator, dates, LegChange::Rpl(equipment))?,
         )),
         Equipped::Eqt => {
             let sub = Sub {

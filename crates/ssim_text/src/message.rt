@@ -49,7 +49,7 @@ impl FreeLine {
 
 /// What has been read of a message.
 #[derive(Clone, Drop)]
-struct Content {
+struct MessageContent {
     originator: Originator,
     kind: Kind,
     mode: TimeMode,
@@ -58,7 +58,7 @@ struct Content {
     free: Vec<FreeLine>,
 }
 
-impl Model for Content {
+impl Model for MessageContent {
     ghost use Rattle.ssim_text.specs.Message.{MessageValue};
 
     ghost Value = { MessageValue };
@@ -73,7 +73,7 @@ impl Model for Content {
     } };
 }
 
-impl Content {
+impl MessageContent {
     /// The canonical text. Memory for `room` bytes is reserved at once.
     fn encode(&self, alloc: Global, room: usize) -> Result<Vec<u8>, AllocError>
         ensures { IfOk result (λ text. text.items ≡ canonical self.now) }
@@ -93,7 +93,7 @@ impl Content {
 /// pointer.
 #[derive(Clone, Drop)]
 pub(crate) struct Draft {
-    content: Box<Content>,
+    content: Box<MessageContent>,
 }
 
 impl Model for Draft {
@@ -116,7 +116,7 @@ impl Draft {
     ) -> Result<Draft, AllocError>
         ensures { IfOk result (λ m. m ≡ begun originator kind mode reference) }
     {
-        let content = Content {
+        let content = MessageContent {
             originator,
             kind,
             mode,

@@ -27,12 +27,12 @@ pub(crate) fn keep_fault_of(error: &Error) -> KeepFault {
 
 /// A writer with a buffer that remembers why it failed.
 #[derive(Drop)]
-struct Draft<W: Write + Drop> {
+struct FileDraft<W: Write + Drop> {
     writer: BufWriter<W>,
     fault: KeepFault,
 }
 
-impl<W: Write + Drop> Write for Draft<W> {
+impl<W: Write + Drop> Write for FileDraft<W> {
     fn write(&mut self, bytes: &[u8]) -> io::Result<usize> {
         let written = self.writer.write(bytes);
         if let Err(error) = &written {
@@ -50,7 +50,7 @@ impl<W: Write + Drop> Write for Draft<W> {
     }
 }
 
-impl<W: Write + Drop> Draft<W> {
+impl<W: Write + Drop> FileDraft<W> {
     /// Writes the content. After a failure nothing more is written.
     fn put_all<C: Content>(&mut self, content: &C) -> Result<(), KeepFault> {
         let put = content.put(&mut Output::new(&mut *self));
@@ -70,7 +70,7 @@ pub(crate) fn put_whole<W: Write + Drop, C: Content>(
     let Ok(writer) = BufWriter::with_capacity(alloc, ROOM, file) else {
         return Err(KeepFault::Memory);
     };
-    let mut draft = Draft {
+    let mut draft = FileDraft {
         writer,
         fault: KeepFault::Fault,
     };

@@ -8,7 +8,7 @@ use Rattle.ssim_values.specs.Station.{is_station}
 use Rattle.ssim_values.specs.Clock.{clock_of, clock_text}
 use Rattle.ssim_values.specs.Variation.{Offset, variation_of, variation_text}
 use Rattle.ssim_values.proofs.ClockLaws.{clock_of-clock_text, variation_of-variation_text}
-use Rattle.ssim_columns.specs.declared.field.Kind.TheVariants.{StationCode, Time, PassengerTime, UtcVariation}
+use Rattle.ssim_columns.specs.declared.field.FieldKind.TheVariants.{StationCode, Time, PassengerTime, UtcVariation}
 use Rattle.ssim_columns.specs.Numbers.{digits, is_blank}
 use Rattle.ssim_columns.specs.Columns.{carried, filled, unless, fault_in, is_carried, passenger_time_of, utc_variation_of}
 use Rattle.ssim_columns.proofs.lemmas.Rows.{both_true, stands_as, stands_by}

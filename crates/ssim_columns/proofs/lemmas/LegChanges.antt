@@ -6,7 +6,7 @@ use Rattle.std.specs.List.{list_all, AllZip}
 use Rattle.ssim_values.specs.Station.{is_station}
 use Rattle.ssim_values.specs.Clock.{clock_text}
 use Rattle.ssim_values.specs.Variation.{variation_text}
-use Rattle.ssim_columns.specs.declared.field.Kind.TheVariants.{Carried, StationCode, Time, PassengerTime, UtcVariation}
+use Rattle.ssim_columns.specs.declared.field.FieldKind.TheVariants.{Carried, StationCode, Time, PassengerTime, UtcVariation}
 use Rattle.ssim_columns.specs.declared.leg.leg_parts.LegStations.{LegStations}
 use Rattle.ssim_columns.specs.declared.leg.leg_parts.LegTimes.{LegTimes}
 use Rattle.ssim_columns.specs.Columns.{columns, fault_in, filled, is_carried}

@@ -8,7 +8,7 @@ use Rattle.ssim_values.specs.DayMask.{days_of, places_of}
 use Rattle.ssim_values.proofs.DayLaws.{day_of-day_text, day_of-one_text}
 use Rattle.ssim_values.proofs.DayMaskLaws.{days_of-places_of}
 use Rattle.ssim_columns.specs.declared.field.Field.{Field}
-use Rattle.ssim_columns.specs.declared.field.Kind.TheVariants.{Carried, Dates, Days, Digits}
+use Rattle.ssim_columns.specs.declared.field.FieldKind.TheVariants.{Carried, Dates, Days, Digits}
 use Rattle.ssim_columns.specs.Numbers.{digits_of, digits}
 use Rattle.ssim_columns.specs.Columns.{columns, field, fault_in, is_carried, end_from, EachIsValid}
 use Rattle.ssim_columns.specs.clauses.Heads.{HasDigits}

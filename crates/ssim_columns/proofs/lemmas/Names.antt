@@ -8,7 +8,7 @@ use Rattle.std.proofs.lemmas.Bool.Decides.{nat_tests, Decides-and, Decides-eqb}
 use Rattle.std.proofs.lemmas.Slice.Eq.{bytes_eq-Decides}
 use Rattle.ssim_values.specs.Airline.{is_airline}
 use Rattle.ssim_values.specs.Flight.{is_suffix}
-use Rattle.ssim_columns.specs.declared.field.Kind.TheVariants.{Suffix, AirlineCode}
+use Rattle.ssim_columns.specs.declared.field.FieldKind.TheVariants.{Suffix, AirlineCode}
 use Rattle.ssim_columns.specs.Numbers.{digits_of, from_one, number_of, sequence_of, digits}
 use Rattle.ssim_columns.specs.Columns.{columns, fault_in, EachIsValid}
 use Rattle.ssim_columns.specs.clauses.Heads.{HasDigits}

@@ -4,7 +4,7 @@ use Rattle.std.specs.Prelude.{slice_range, replicate}
 use Rattle.std.proofs.lemmas.List.{length-append}
 use Rattle.std.proofs.lemmas.Bool.Decides.{nat_tests}
 use Rattle.ssim_columns.specs.declared.field.Field.{Field}
-use Rattle.ssim_columns.specs.declared.field.Kind.TheVariants.{Carried, Digits}
+use Rattle.ssim_columns.specs.declared.field.FieldKind.TheVariants.{Carried, Digits}
 use Rattle.ssim_columns.specs.Columns.{field, columns, EachIsValid}
 use Rattle.ssim_columns.specs.Leg.{leg_table, middle_table, own_table, own_columns, spread}
 use Rattle.ssim_columns.specs.Leg.{leg_columns, AreLegColumns}

@@ -5,7 +5,7 @@ use Rattle.std.specs.List.{concat, AllZip}
 use Rattle.std.proofs.lemmas.List.{take_at, drop_at, drop_all, drop-drop, drop-take, length-append, take-append-drop}
 use Rattle.std.proofs.lemmas.List.Folds.{concat-append}
 use Rattle.ssim_values.specs.Day.{day_of}
-use Rattle.ssim_columns.specs.declared.field.Kind.TheVariants.{Dates}
+use Rattle.ssim_columns.specs.declared.field.FieldKind.TheVariants.{Dates}
 use Rattle.ssim_columns.specs.Columns.{columns, fault_in, dates_fault, end_from}
 use Rattle.ssim_columns.proofs.lemmas.Slices.{slice_in}
 

@@ -6,7 +6,7 @@ use Rattle.ssim_values.specs.Day.{day_of}
 use Rattle.ssim_values.specs.DayMask.{days_of}
 use Rattle.ssim_values.specs.Clock.{clock_of}
 use Rattle.ssim_values.specs.Station.{is_station}
-use Rattle.ssim_columns.specs.declared.field.Kind.TheVariants.{Carried, Digits}
+use Rattle.ssim_columns.specs.declared.field.FieldKind.TheVariants.{Carried, Digits}
 use Rattle.ssim_columns.specs.Numbers.{digits_of}
 use Rattle.ssim_columns.specs.Columns.{columns, field, is_carried, fault_in, end_from, passenger_time_of, utc_variation_of, EachIsValid}
 use Rattle.ssim_columns.specs.Leg.{Name, IsName, SpellsName, leg_table, middle_table, name_table}

@@ -3,7 +3,7 @@ use Rattle.std.proofs.Common.{◌≡◌, ℕ, Bool, ◌&&◌, ◌+◌, ◌-◌, 
 use Rattle.std.specs.Prelude.{slice_range, codes, IsTrue, replicate, ◌==◌}
 use Rattle.std.specs.List.{list_all, AllZip}
 use Rattle.std.proofs.lemmas.List.{take-append-drop, append-nil, length-drop, length-append}
-use Rattle.ssim_columns.specs.declared.field.Kind.TheVariants.{Carried, Digits}
+use Rattle.ssim_columns.specs.declared.field.FieldKind.TheVariants.{Carried, Digits}
 use Rattle.ssim_columns.specs.Numbers.{digits_of, digits}
 use Rattle.ssim_columns.specs.Columns.{columns, field, fault_in, is_carried, EachIsValid}
 use Rattle.ssim_columns.specs.clauses.Heads.{HasDigits}

@@ -2,10 +2,10 @@
 use Rattle.std.specs.Prelude.{ℕ, ◌+◌, ◌-◌, ◌≤◌, ◌<◌, ◌==◌, Bool, true, ◌&&◌, nat_lt, nat_le, List}
 use Rattle.std.specs.Prelude.{◌++◌, length, take, drop}
 use Rattle.std.specs.List.{list_all}
-use Rattle.ssim_columns.specs.declared.field.Kind.{Kind}
-use Rattle.ssim_columns.specs.declared.field.Kind.TheVariants.{AirlineCode, Number, Sequence, Dates}
-use Rattle.ssim_columns.specs.declared.field.Kind.TheVariants.{Date, StationCode, Time}
-use Rattle.ssim_columns.specs.declared.field.Kind.TheVariants.{PassengerTime, UtcVariation, Digits}
+use Rattle.ssim_columns.specs.declared.field.FieldKind.{FieldKind}
+use Rattle.ssim_columns.specs.declared.field.FieldKind.TheVariants.{AirlineCode, Number, Sequence, Dates}
+use Rattle.ssim_columns.specs.declared.field.FieldKind.TheVariants.{Date, StationCode, Time}
+use Rattle.ssim_columns.specs.declared.field.FieldKind.TheVariants.{PassengerTime, UtcVariation, Digits}
 use Rattle.ssim_columns.specs.declared.field.Field.{Field}
 
 -- whether a byte is printed: from 32 to 126
@@ -29,7 +29,7 @@ abbrev pub is_field : Field → Bool
 is_field f = nat_lt 0 f.first && nat_le f.first f.last && nat_le f.last 200
 
 -- whether a field of this kind may have n columns
-abbrev pub fits_kind : Kind → ℕ → Bool
+abbrev pub fits_kind : FieldKind → ℕ → Bool
 fits_kind Number n = nat_le n 6
 fits_kind Sequence n = nat_le n 6
 fits_kind Digits n = nat_le n 6

@@ -7,7 +7,7 @@ ghost use Rattle.ssim_values.specs.Day.{day_of};
 ghost use Rattle.ssim_values.specs.DayMask.{days_of, IsMask};
 ghost use Rattle.ssim_values.specs.Airline.{is_airline};
 ghost use Rattle.ssim_values.specs.Flight.{is_suffix};
-ghost use Rattle.ssim_columns.specs.declared.field.Kind.TheVariants.{Suffix, AirlineCode, Carried, Days, Number, Sequence, Digits, Dates, Date};
+ghost use Rattle.ssim_columns.specs.declared.field.FieldKind.TheVariants.{Suffix, AirlineCode, Carried, Days, Number, Sequence, Digits, Dates, Date};
 ghost use Rattle.ssim_columns.specs.Numbers.{number_of, sequence_of, digits_of};
 ghost use Rattle.ssim_columns.specs.Columns.{columns, is_carried, fault_in, end_from};
 ghost use Rattle.ssim_columns.specs.clauses.Columns.{AreColumns};

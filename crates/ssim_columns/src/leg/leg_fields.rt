@@ -1,7 +1,7 @@
 //! The fields of a flight leg record, type 3: the one table of its columns. Each constant is a
 //! field with its columns, counted from 1.
 
-use crate::field::{Field, Kind};
+use crate::field::{Field, FieldKind};
 
 /// Column 2: the suffix of the flight.
 pub const SUFFIX: Field = field!(2 2 Suffix);

@@ -6,7 +6,7 @@ ghost use Rattle.ssim_columns.specs.Segment.{segment_table};
 ghost use Rattle.ssim_columns.specs.clauses.Heads.{IsSegmentHead};
 
 use crate::field::columns::serial_at;
-use crate::field::{Field, Kind, first_fault_of, middle_is_carried};
+use crate::field::{Field, FieldKind, first_fault_of, middle_is_carried};
 use crate::latest_columns::LatestColumns;
 use crate::leg::leg_fields::{NAME_FIELDS, SERIAL, SERVICE_TYPE};
 use crate::leg::leg_name::{LegName, name_at};

@@ -5,7 +5,7 @@ use Rattle.std.specs.List.{flat_map}
 use Rattle.ssim_text.specs.declared.reference.Reference.{Reference}
 use Rattle.ssim_held.specs.Entries.{Entry}
 use Rattle.ssim_held.specs.clauses.Ordered.{Belongs}
-use Rattle.ssim_held.specs.declared.pages.Place.{Place}
+use Rattle.ssim_held.specs.declared.pages.PagePlace.{PagePlace}
 
 -- the messages of all pages, in order
 abbrev pub all_of : List (List Entry) → List Entry
@@ -18,7 +18,7 @@ position_on (first ∷ pages) zero at = at
 position_on (first ∷ pages) (suc page) at = length first + position_on pages page at
 
 -- how many messages come before a place
-abbrev pub position : List (List Entry) → Place → ℕ
+abbrev pub position : List (List Entry) → PagePlace → ℕ
 position pages place = position_on pages place.page place.at
 
 -- a page has a message
@@ -26,7 +26,7 @@ abbrev pub IsFilled : List Entry → Type 0
 IsFilled page = page ≢ []
 
 -- the place has a message with the reference
-pub record IsHeldOn (pages : List (List Entry)) (reference : Reference) (place : Place) : Type 0 where
+pub record IsHeldOn (pages : List (List Entry)) (reference : Reference) (place : PagePlace) : Type 0 where
   pub page : List Entry
   pub is_page : slice_get pages place.page ≡ Some page
   pub within : place.at < length page
@@ -35,12 +35,12 @@ pub record IsHeldOn (pages : List (List Entry)) (reference : Reference) (place :
   pub its : entry.reference ≡ reference
 
 -- the place is on a page, or before the first message of all
-abbrev pub IsGap : List (List Entry) → Place → Type 0
+abbrev pub IsGap : List (List Entry) → PagePlace → Type 0
 IsGap pages place =
     MatchOption (slice_get pages place.page) ((pages ≡ []) × (place.page ≡ 0) × (place.at ≡ 0))
     (λ page. place.at ≤ length page)
 
 -- the reference belongs in the gap
-pub record BelongsOn (pages : List (List Entry)) (reference : Reference) (place : Place) : Type 0 where
+pub record BelongsOn (pages : List (List Entry)) (reference : Reference) (place : PagePlace) : Type 0 where
   pub gap : IsGap pages place
   pub belongs : Belongs (all_of pages) reference (position pages place) (position pages place)

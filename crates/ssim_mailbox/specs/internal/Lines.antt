@@ -1,12 +1,12 @@
 -- The lines of a mailbox, one after another.
 use Rattle.std.specs.Prelude.{◌≡◌, ℕ, ◌+◌, ◌==◌, List, [], ◌∷◌, Option, Some, None, option_map}
 use Rattle.std.specs.List.{slice_split}
-use Rattle.ssim_mailbox.specs.declared.line.Line.{Line}
+use Rattle.ssim_mailbox.specs.declared.line.MailboxLine.{MailboxLine}
 use Rattle.ssim_mailbox.specs.declared.line.Lines.{Lines}
 use Rattle.ssim_mailbox.specs.Lines.{MailLine, dot_after, lines_from, shown}
 
 -- what contracts see of a line
-abbrev pub line_of : Line → MailLine
+abbrev pub line_of : MailboxLine → MailLine
 line_of l = record { number = l.number; bytes = l.bytes.now; under_dot = l.under_dot }
 
 -- the parts of the bytes beside a mark, if there is one

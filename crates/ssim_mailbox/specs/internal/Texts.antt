@@ -1,7 +1,7 @@
 -- Texts of which one has begun.
 use Rattle.std.specs.Prelude.{◌≡◌, ℕ, Bool, false, true, List, [], ◌∷◌, ◌++◌, ◌≤◌, drop, length}
 use Rattle.std.specs.Prelude.{take}
-use Rattle.ssim_mailbox.specs.declared.draft.Draft.{Draft}
+use Rattle.ssim_mailbox.specs.declared.draft.TextDraft.{TextDraft}
 use Rattle.ssim_mailbox.specs.declared.free_text.FreeText.{FreeText}
 use Rattle.ssim_mailbox.specs.declared.line.Lines.{Lines}
 use Rattle.ssim_mailbox.specs.declared.role.Role.{Role}
@@ -26,7 +26,7 @@ pub record HasLines (n : ℕ) (bytes : List ℕ) (end : ℕ) (begun : List MailL
   pub text : take end bytes ≡ written (trimmed begun)
 
 -- a draft has these lines
-abbrev pub IsDraft : Draft → List MailLine → Type 0
+abbrev pub IsDraft : TextDraft → List MailLine → Type 0
 IsDraft draft begun = HasLines draft.line draft.bytes.items draft.end begun
 
 -- the number of the first line, if a line of number m is added to a draft of these bytes

@@ -16,7 +16,7 @@ use Rattle.ssim_outbox.specs.clauses.Acting.{ActEach}
 use Rattle.ssim_outbox.specs.Acting.{ActOnTheirDates}
 use Rattle.ssim_outbox.specs.Reach.{IsSaid, Reach, after_all}
 use Rattle.ssim_outbox.specs.Published.{Leave, NamesDifferences}
-use Rattle.ssim_outbox.specs.declared.draft.Draft.{Draft}
+use Rattle.ssim_outbox.specs.declared.draft.PlanDraft.{PlanDraft}
 use Rattle.ssim_outbox.specs.declared.flight_change.FlightChange.{FlightChange}
 use Rattle.ssim_outbox.specs.declared.planned_sub.PlannedSub.{PlannedSub}
 
@@ -56,7 +56,7 @@ ActOnEach rows actions flight period before =
     → ActEach rows n actions (on_day (days_in before flight) n)
 
 -- the sub-messages so far lead from the old timetable towards the new one
-pub record IsDraft (rows : List Row) (old new : FlightNumber → Days) (draft : Draft) : Type 0 where
+pub record IsDraft (rows : List Row) (old new : FlightNumber → Days) (draft : PlanDraft) : Type 0 where
   pub leave : Leave rows draft.subs.items old (days_in draft.schedule)
   pub said : AllByRecursion (λ sub. IsSaid sub.action) draft.subs.items
   pub acting : ActOnTheirDates rows draft.subs.items old
@@ -69,7 +69,7 @@ pub record IsDraft (rows : List Row) (old new : FlightNumber → Days) (draft : 
 
 -- nothing is left to say of the date: the new itinerary is made, or no messages can make it
 abbrev pub IsSettled :
-    List Row → (FlightNumber → Days) → (FlightNumber → Days) → Draft → FlightNumber → ℕ → Type 0
+    List Row → (FlightNumber → Days) → (FlightNumber → Days) → PlanDraft → FlightNumber → ℕ → Type 0
 IsSettled rows old new draft flight day =
     (on_day (days_in draft.schedule flight) day ≡ on_day (new flight) day)
     ⊎ ¬ (Reach rows day (on_day (old flight) day) (on_day (new flight) day))
@@ -80,7 +80,7 @@ Dates = FlightNumber → ℕ → Bool
 
 -- a draft becomes another, in which these dates are settled, and all that were before
 pub record Settles (rows : List Row) (old new : FlightNumber → Days) (dates : Dates)
-    (before after : Draft) : Type 0 where
+    (before after : PlanDraft) : Type 0 where
   pub draft : IsDraft rows old new after
   pub settled : (flight : FlightNumber) (day : ℕ) → IsFlight flight → day < day_count
       → IsSettled rows old new before flight day ⊎ IsTrue (dates flight day)

@@ -7,7 +7,7 @@ ghost use Rattle.ssim_program.specs.internal.Program.{Answers};
 use crate::refusal::Refusal;
 use crate::store::Store;
 use crate::timetable_file::{carrier_of, open_timetable};
-use ssim_page::{Heading, page_of};
+use ssim_page::{PageHeading, page_of};
 use ssim_records::Carrier;
 use std::alloc::Global;
 
@@ -25,10 +25,10 @@ pub(crate) fn page<S: Store>(alloc: Global, file: &str, store: &mut S) -> Result
 }
 
 /// What the page of a data set with this carrier record is of.
-fn heading_of(carrier: &Carrier) -> Heading
+fn heading_of(carrier: &Carrier) -> PageHeading
     ensures { result ≡ heading_of carrier.now }
 {
-    Heading {
+    PageHeading {
         airline: carrier.airline(),
         season: carrier.season(),
         time_mode: carrier.time_mode(),

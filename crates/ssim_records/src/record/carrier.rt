@@ -3,14 +3,14 @@
 ghost use Rattle.std.specs.Prelude.{◌≡◌, ◌<◌, ◌∷◌, [], None, Ok, IfOk, IfErr, Some, IsTrue, slice_range};
 ghost use Rattle.std.specs.List.{list_all};
 ghost use Rattle.ssim_values.specs.Calendar.{day_limit};
-ghost use Rattle.ssim_columns.specs.declared.field.Kind.TheVariants.{Carried, Mode};
+ghost use Rattle.ssim_columns.specs.declared.field.FieldKind.TheVariants.{Carried, Mode};
 ghost use Rattle.ssim_columns.specs.Columns.{columns, fault_in, first_fault, is_carried, time_mode_of, EachIsValid};
 ghost use Rattle.ssim_columns.specs.Leg.{IsEnd};
 ghost use Rattle.ssim_records.specs.Carrier.{CarrierFields, IsCarrier, SpellsCarrier, carrier_table, written_carrier};
 
 use ssim_columns::leg_fields::SERIAL;
 use ssim_columns::{
-    Field, Kind, airline_at, bytes_of, created_at, details_at, end_text, field, first_day_at,
+    Field, FieldKind, airline_at, bytes_of, created_at, details_at, end_text, field, first_day_at,
     first_fault, join, last_day_at, serial_at, six_digits, time_mode_of, time_mode_text,
 };
 use ssim_values::{Airline, Day, TimeMode};

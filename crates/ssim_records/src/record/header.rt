@@ -5,7 +5,7 @@ ghost use Rattle.ssim_columns.specs.Columns.{columns, first_fault, EachIsValid};
 ghost use Rattle.ssim_records.specs.Header.{HeaderFields, IsHeader, SpellsHeader, header_table, written_header};
 
 use ssim_columns::leg_fields::SERIAL;
-use ssim_columns::{Field, Kind, details_at, field, first_fault, join, serial_at, six_digits};
+use ssim_columns::{Field, FieldKind, details_at, field, first_fault, join, serial_at, six_digits};
 use std::marker::Model;
 
 const TABLE: [Field; 3] = [field!(2 35 Title), field!(36 194 Carried), SERIAL];

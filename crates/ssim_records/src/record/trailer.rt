@@ -2,14 +2,14 @@
 
 ghost use Rattle.std.specs.Prelude.{◌≡◌, ◌<◌, ◌∷◌, [], None, Ok, IfOk, IfErr, Some, IsTrue, slice_range};
 ghost use Rattle.std.specs.List.{list_all};
-ghost use Rattle.ssim_columns.specs.declared.field.Kind.TheVariants.{Carried, Code};
+ghost use Rattle.ssim_columns.specs.declared.field.FieldKind.TheVariants.{Carried, Code};
 ghost use Rattle.ssim_columns.specs.Columns.{columns, fault_in, first_fault, is_carried, end_code_of, EachIsValid};
 ghost use Rattle.ssim_records.specs.Trailer.{TrailerFields, IsTrailer, SpellsTrailer, trailer_table, written_trailer};
 
 use ssim_columns::leg_fields::SERIAL;
 use ssim_columns::{
-    EndCode, Field, Kind, airline_at, bytes_of, carried_at, digits_at, end_code_of, end_code_text,
-    field, first_fault, join, serial_at, seven, six_digits,
+    EndCode, Field, FieldKind, airline_at, bytes_of, carried_at, digits_at, end_code_of,
+    end_code_text, field, first_fault, join, serial_at, seven, six_digits,
 };
 use ssim_values::Airline;
 use std::marker::Model;

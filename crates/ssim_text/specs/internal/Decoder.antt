@@ -3,8 +3,8 @@ use Rattle.std.specs.Prelude.{◌≡◌, ℕ, ◌<◌, ◌≤◌, List, length}
 use Rattle.ssim_text.specs.declared.fault.Fault.TheVariants as fault
 use Rattle.ssim_text.specs.declared.fault.TextFault.{TextFault}
 use Rattle.ssim_text.specs.declared.fault.TextFault.TheVariants as refusal
-use Rattle.ssim_text.specs.declared.decoder.Refusal.{Refusal}
-use Rattle.ssim_text.specs.declared.decoder.Refusal.TheVariants.{NoMemory, Misplaced}
+use Rattle.ssim_text.specs.declared.decoder.LineRefusal.{LineRefusal}
+use Rattle.ssim_text.specs.declared.decoder.LineRefusal.TheVariants.{NoMemory, Misplaced}
 use Rattle.ssim_text.specs.Message.{MessageValue}
 use Rattle.ssim_text.specs.Grammar.{NamesPlace}
 use Rattle.ssim_text.specs.Canonical.{canonical}
@@ -12,7 +12,7 @@ use Rattle.ssim_text.specs.Spelling.{SpellsMessage}
 use Rattle.ssim_text.specs.Decoder.{IsFaultAt}
 
 -- the refusal names the first line that is not valid; out of memory says nothing of the lines
-abbrev pub IsPlace : List (List ℕ) → Refusal → Type 0
+abbrev pub IsPlace : List (List ℕ) → LineRefusal → Type 0
 IsPlace lines NoMemory = Unit {0}
 IsPlace lines (Misplaced f index) = NamesPlace lines index × IsFaultAt lines index f
 

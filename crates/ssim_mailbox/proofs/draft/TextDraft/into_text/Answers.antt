@@ -3,7 +3,7 @@ use Rattle.std.proofs.Common.{◌≤◌, ◌∙◌, ap, arith, length, ℕ, List
 use Rattle.std.proofs.lemmas.Grind.{common_steps}
 use Rattle.ssim_mailbox.specs.Texts.{MailText}
 use Rattle.ssim_mailbox.proofs.Drafts.{text_found}
-use Rattle.ssim_mailbox.proofs.draft.Draft.into_text.Goals as goal
+use Rattle.ssim_mailbox.proofs.draft.TextDraft.into_text.Goals as goal
 
 abbrev a_text : ℕ → List ℕ → MailText
 a_text line bytes = record { line = line; bytes = bytes }

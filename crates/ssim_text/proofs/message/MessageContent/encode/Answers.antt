@@ -4,7 +4,7 @@ use Rattle.ssim_text.specs.declared.action.Sub.{Sub}
 use Rattle.ssim_text.specs.Grammar.{KindPart, ModePart, ReferencePart, subs_parts, free_parts}
 use Rattle.ssim_text.specs.Canonical.{written, originator_parts, canonical}
 use Rattle.ssim_text.proofs.Writing.{written_whole}
-use Rattle.ssim_text.proofs.message.Content.encode.Goals as goal
+use Rattle.ssim_text.proofs.message.MessageContent.encode.Goals as goal
 
 pub returns : goal.returns
 returns c =

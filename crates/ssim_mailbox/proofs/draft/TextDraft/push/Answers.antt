@@ -2,7 +2,7 @@
 use Rattle.std.proofs.Common.{◌≡◌, true, sym, ◌∙◌, Result, Ok, Err, OnOk}
 use Rattle.ssim_mailbox.specs.Texts.{is_empty}
 use Rattle.ssim_mailbox.specs.internal.Lines.{line_of}
-use Rattle.ssim_mailbox.proofs.draft.Draft.push.Goals as goal
+use Rattle.ssim_mailbox.proofs.draft.TextDraft.push.Goals as goal
 
 then_too : {A E P Q : Type 0} (result : Result A E) → (P → Q) → OnOk result P → OnOk result Q
 then_too (Ok x) more h = more h

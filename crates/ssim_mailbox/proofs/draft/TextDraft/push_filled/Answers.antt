@@ -3,7 +3,7 @@ use Rattle.std.proofs.Common.{◌∙◌, ◌++◌, ap, append_assoc, arith, [], 
 use Rattle.std.proofs.lemmas.Grind.{common_steps}
 use Rattle.ssim_mailbox.specs.internal.Lines.{line_of}
 use Rattle.ssim_mailbox.proofs.Drafts.{filled}
-use Rattle.ssim_mailbox.proofs.draft.Draft.push_filled.Goals as goal
+use Rattle.ssim_mailbox.proofs.draft.TextDraft.push_filled.Goals as goal
 
 pub returns-clause-draft : goal.returns-clause-draft
 returns-clause-draft c full begun h =

@@ -3,7 +3,7 @@ use Rattle.std.proofs.Common.{◌∙◌, ◌++◌, ◌∷◌, [], ℕ, List, ap,
 use Rattle.ssim_listing.specs.Lines.{period_text}
 use Rattle.ssim_outbox.proofs.JoinedLines.{unsaid_joined}
 use Rattle.ssim_outbox.specs.Unsaid.{unsaid_line}
-use Rattle.ssim_outbox.proofs.unsaid_dates.Tuple2PeriodReasonPrintedNamed.print.Goals as goal
+use Rattle.ssim_outbox.proofs.unsaid_dates.Tuple2PeriodUnsaidReasonPrintedNamed.print.Goals as goal
 
 pub returns : goal.returns
 returns c =

@@ -10,7 +10,7 @@ use Rattle.ssim_mailbox.specs.Texts.{MailText, texts_of, with_line}
 use Rattle.ssim_mailbox.specs.internal.Lines.{line_of}
 use Rattle.ssim_mailbox.specs.internal.Texts.{ends_by, texts_with}
 use Rattle.ssim_mailbox.proofs.Drafts.{ended_text, no_text, none_begun, one_more}
-use Rattle.ssim_mailbox.proofs.draft.Draft.add.Goals as goal
+use Rattle.ssim_mailbox.proofs.draft.TextDraft.add.Goals as goal
 
 pub returns-in_ok-push-in-First : goal.returns-in_ok-push-in-First
 returns-in_ok-push-in-First c begun h =

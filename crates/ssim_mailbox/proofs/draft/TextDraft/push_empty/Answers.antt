@@ -2,7 +2,7 @@
 use Rattle.std.proofs.Common.{arith}
 use Rattle.std.proofs.lemmas.Grind.{common_steps}
 use Rattle.ssim_mailbox.proofs.Drafts.{emptied, emptied_none}
-use Rattle.ssim_mailbox.proofs.draft.Draft.push_empty.Goals as goal
+use Rattle.ssim_mailbox.proofs.draft.TextDraft.push_empty.Goals as goal
 
 pub returns-in_ok-push-clause-draft : goal.returns-in_ok-push-clause-draft
 returns-in_ok-push-clause-draft c line empty begun h =
