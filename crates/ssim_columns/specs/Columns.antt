@@ -14,7 +14,11 @@ use Rattle.ssim_values.specs.Airline.{is_airline}
 use Rattle.ssim_values.specs.Flight.{is_suffix}
 use Rattle.ssim_columns.specs.Numbers.{is_blank, digits_of, number_of, sequence_of}
 use Rattle.ssim_columns.specs.declared.field.FieldKind.{FieldKind}
-use Rattle.ssim_columns.specs.declared.field.FieldKind.TheVariants.{Suffix, AirlineCode, Number, Sequence, Carried, Dates, Date, Days, StationCode, Time, PassengerTime, UtcVariation, Digits, Mode, Code, Title}
+use Rattle.ssim_columns.specs.declared.field.FieldKind.TheVariants.{Suffix, AirlineCode, Number}
+use Rattle.ssim_columns.specs.declared.field.FieldKind.TheVariants.{Sequence, Carried, Dates, Date}
+use Rattle.ssim_columns.specs.declared.field.FieldKind.TheVariants.{Days, StationCode, Time}
+use Rattle.ssim_columns.specs.declared.field.FieldKind.TheVariants.{PassengerTime, UtcVariation}
+use Rattle.ssim_columns.specs.declared.field.FieldKind.TheVariants.{Digits, Mode, Code, Title}
 use Rattle.ssim_columns.specs.declared.field.Field.{Field}
 use Rattle.ssim_values.specs.declared.time_mode.TimeMode.{TimeMode}
 use Rattle.ssim_values.specs.declared.time_mode.TimeMode.TheVariants.{Utc, Local}

@@ -8,7 +8,10 @@ use Rattle.ssim_values.specs.DayMask.{days_of, places_of, IsMask}
 use Rattle.ssim_values.specs.Airline.{is_airline}
 use Rattle.ssim_values.specs.Flight.{FlightNumber, IsFlight}
 use Rattle.ssim_values.specs.Period.{DayRange}
-use Rattle.ssim_columns.specs.declared.field.FieldKind.TheVariants.{Suffix, AirlineCode, Carried, Days, Number, Sequence, Digits, Dates, StationCode, Time, PassengerTime, UtcVariation}
+use Rattle.ssim_columns.specs.declared.field.FieldKind.TheVariants.{Suffix, AirlineCode, Carried}
+use Rattle.ssim_columns.specs.declared.field.FieldKind.TheVariants.{Days, Number, Sequence, Digits}
+use Rattle.ssim_columns.specs.declared.field.FieldKind.TheVariants.{Dates, StationCode, Time}
+use Rattle.ssim_columns.specs.declared.field.FieldKind.TheVariants.{PassengerTime, UtcVariation}
 use Rattle.ssim_columns.specs.declared.field.Field.{Field}
 use Rattle.ssim_columns.specs.Numbers.{digits_of, number_of, sequence_of, digits}
 use Rattle.ssim_columns.specs.Columns.{columns, field, is_carried, end_from, EachIsValid}

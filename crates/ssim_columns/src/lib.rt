@@ -2,8 +2,8 @@
 //! Schedules Information Manual has them: which texts each field allows, what they say, and how
 //! they are written.
 //!
-//! - [`Field`] and [`FieldKind`]: a field's columns and its valid texts. [`first_fault`] finds the first
-//!   column of the first invalid field of a table.
+//! - [`Field`] and [`FieldKind`]: a field's columns and its valid texts. [`first_fault`] finds the
+//!   first column of the first invalid field of a table.
 //! - [`leg_fields`]: the one table of a leg's fields with their columns. [`LegColumns::text`]
 //!   returns the bytes of a field.
 //! - [`LegName`] identifies the leg of a record. [`LegColumns`] and [`SegmentTail`] are the columns

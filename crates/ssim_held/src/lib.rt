@@ -5,7 +5,8 @@
 //! - [`look`]: looks a message up in a list in order of reference; [`LookUp`]: what is held under
 //!   its reference. [`search`]: the position of a reference.
 //! - [`first_conflict`], [`first_new`], [`merged`]: two such lists, compared and put together.
-//! - [`Pages`]: such a list on pages, to which messages come in any order; [`PagePlace`]: where one is.
+//! - [`Pages`]: such a list on pages, to which messages come in any order; [`PagePlace`]: where one
+//!   is.
 //! - [`put_desk`]: writes the desk file of a base and the messages that are held over it; or
 //!   [`WriteFault`], 52.
 //! - [`read_desk`]: reads a desk file from a reader, and returns its base and messages ([`Opened`])

@@ -1,5 +1,5 @@
-//! The commands, each in a module of its own: what it makes of the files. `explain` and `rehearse` have
-//! their own folders.
+//! The commands, each in a module of its own: what it makes of the files. `explain` and `rehearse`
+//! have their own folders.
 ghost use Rattle.std.specs.Prelude.{◌≡◌, IfOk, IsTrue, List, Option, ℕ};
 ghost use Rattle.ssim_command_line.specs.Line.{line_of};
 ghost use Rattle.ssim_program.specs.Again.{PrintsItself};

@@ -4,7 +4,8 @@ use Rattle.std.specs.List.{concat, list_all}
 use Rattle.ssim_values.specs.Calendar.{day_limit}
 use Rattle.ssim_values.specs.Day.{day_of, day_text}
 use Rattle.ssim_values.specs.Airline.{is_airline}
-use Rattle.ssim_columns.specs.declared.field.FieldKind.TheVariants.{AirlineCode, Carried, Dates, Date, Digits, Mode}
+use Rattle.ssim_columns.specs.declared.field.FieldKind.TheVariants.{AirlineCode, Carried, Dates}
+use Rattle.ssim_columns.specs.declared.field.FieldKind.TheVariants.{Date, Digits, Mode}
 use Rattle.ssim_columns.specs.declared.field.Field.{Field}
 use Rattle.ssim_values.specs.declared.time_mode.TimeMode.{TimeMode}
 use Rattle.ssim_columns.specs.Numbers.{digits_of, digits}

@@ -3,7 +3,8 @@ use Rattle.std.specs.Prelude.{◌≡◌, ◌⊎◌, ℕ, ◌+◌, ◌≤◌, ◌
 use Rattle.std.specs.Prelude.{List, ◌++◌, length, Option, Some, None, Result, Ok, Err}
 use Rattle.ssim_records.specs.Device.{Reader}
 use Rattle.ssim_records.specs.Frames.{Frames, others}
-use Rattle.ssim_records.specs.declared.fault.RecordFault.TheVariants.{Short, BadType, BadColumn, ReadFault, ReaderNeverEnds}
+use Rattle.ssim_records.specs.declared.fault.RecordFault.TheVariants.{Short, BadType, BadColumn}
+use Rattle.ssim_records.specs.declared.fault.RecordFault.TheVariants.{ReadFault, ReaderNeverEnds}
 use Rattle.ssim_records.specs.declared.record.Record.{Record}
 use Rattle.ssim_base.specs.Base.{Outcome, IsAllowed}
 use Rattle.ssim_base.specs.ReadBack.{EachSpells}

@@ -3,9 +3,11 @@ use Rattle.std.specs.Prelude.{ℕ, ◌+◌, ◌-◌, ◌≤◌, ◌<◌, ◌==�
 use Rattle.std.specs.Prelude.{◌++◌, length, take, drop}
 use Rattle.std.specs.List.{list_all}
 use Rattle.ssim_columns.specs.declared.field.FieldKind.{FieldKind}
-use Rattle.ssim_columns.specs.declared.field.FieldKind.TheVariants.{AirlineCode, Number, Sequence, Dates}
+use Rattle.ssim_columns.specs.declared.field.FieldKind.TheVariants.{AirlineCode, Number, Sequence}
+use Rattle.ssim_columns.specs.declared.field.FieldKind.TheVariants.{Dates}
 use Rattle.ssim_columns.specs.declared.field.FieldKind.TheVariants.{Date, StationCode, Time}
-use Rattle.ssim_columns.specs.declared.field.FieldKind.TheVariants.{PassengerTime, UtcVariation, Digits}
+use Rattle.ssim_columns.specs.declared.field.FieldKind.TheVariants.{PassengerTime, UtcVariation}
+use Rattle.ssim_columns.specs.declared.field.FieldKind.TheVariants.{Digits}
 use Rattle.ssim_columns.specs.declared.field.Field.{Field}
 
 -- whether a byte is printed: from 32 to 126

@@ -3,7 +3,9 @@
 ghost use Rattle.std.specs.Prelude.{◌≡◌, ◌<◌, ◌+◌, ◌^◌, ◌∷◌, ◌↔◌, [], None, Some, IsSome, IfSome, IsTrue, length};
 ghost use Rattle.std.specs.Str.{bytes_eq};
 ghost use Rattle.ssim_values.specs.Clock.{clock_of};
-ghost use Rattle.ssim_columns.specs.declared.field.FieldKind.TheVariants.{StationCode, Time, PassengerTime, UtcVariation};
+ghost use Rattle.ssim_columns.specs.declared.field.FieldKind.TheVariants.{StationCode, Time};
+ghost use Rattle.ssim_columns.specs.declared.field.FieldKind.TheVariants.{PassengerTime};
+ghost use Rattle.ssim_columns.specs.declared.field.FieldKind.TheVariants.{UtcVariation};
 ghost use Rattle.ssim_columns.specs.Columns.{fault_in, is_carried, passenger_time_of, utc_variation_of, first_fault, EachIsValid};
 ghost use Rattle.ssim_columns.specs.Leg.{AreLegColumns, leg_columns, leg_table, own_table};
 ghost use Rattle.ssim_columns.specs.Leg.{own_columns, spread};

@@ -26,7 +26,8 @@ abbrev pub IsFilled : List Entry → Type 0
 IsFilled page = page ≢ []
 
 -- the place has a message with the reference
-pub record IsHeldOn (pages : List (List Entry)) (reference : Reference) (place : PagePlace) : Type 0 where
+pub record IsHeldOn (pages : List (List Entry)) (reference : Reference)
+    (place : PagePlace) : Type 0 where
   pub page : List Entry
   pub is_page : slice_get pages place.page ≡ Some page
   pub within : place.at < length page
@@ -41,6 +42,7 @@ IsGap pages place =
     (λ page. place.at ≤ length page)
 
 -- the reference belongs in the gap
-pub record BelongsOn (pages : List (List Entry)) (reference : Reference) (place : PagePlace) : Type 0 where
+pub record BelongsOn (pages : List (List Entry)) (reference : Reference)
+    (place : PagePlace) : Type 0 where
   pub gap : IsGap pages place
   pub belongs : Belongs (all_of pages) reference (position pages place) (position pages place)

@@ -2,7 +2,8 @@
 use Rattle.ssim_values.specs.Calendar.{slot}
 use Rattle.ssim_values.specs.clauses.Weekdays.{below}
 use Rattle.ssim_periods.specs.internal.Rows.{value_on}
-use Rattle.std.specs.Prelude.{[], ◌∷◌, nat_le, nat_lt, ℕ, zero, suc, ◌+◌, Bool, false, ◌&&◌, nat_eq, List, slice_index_or, if◌then◌else◌}
+use Rattle.std.specs.Prelude.{[], ◌∷◌, nat_le, nat_lt, ℕ, zero, suc, ◌+◌, Bool, false, ◌&&◌, nat_eq}
+use Rattle.std.specs.Prelude.{List, slice_index_or, if◌then◌else◌}
 
 -- the weekdays of a mask that have a day from `from` to before `to`; w is the index of the first
 -- weekday

@@ -1,7 +1,8 @@
 -- Bytes that spell a record, and a record with another serial.
 use Rattle.std.specs.Prelude.{ℕ, List, Option, Some, None}
 use Rattle.ssim_records.specs.declared.record.Record.{Record}
-use Rattle.ssim_records.specs.declared.record.Record.TheVariants.{Header, Carrier, Leg, Segment, Trailer}
+use Rattle.ssim_records.specs.declared.record.Record.TheVariants.{Header, Carrier, Leg, Segment}
+use Rattle.ssim_records.specs.declared.record.Record.TheVariants.{Trailer}
 use Rattle.ssim_records.specs.Record.{Spells}
 
 -- the record that was put in is the one that the bytes spell

@@ -10,7 +10,8 @@ use Rattle.ssim_base.specs.Export as refusal
 use Rattle.ssim_base.specs.Export.{ExportRefusal, Frame, chapter7}
 use Rattle.ssim_base.specs.Sinks.{Breaks, Grows}
 use Rattle.ssim_schedule.specs.declared.export.ExportFault.{ExportFault}
-use Rattle.ssim_schedule.specs.declared.export.ExportFault.TheVariants.{Variations, Records, WriteFault, Memory}
+use Rattle.ssim_schedule.specs.declared.export.ExportFault.TheVariants.{Variations, Records}
+use Rattle.ssim_schedule.specs.declared.export.ExportFault.TheVariants.{WriteFault, Memory}
 
 -- the sink took the bytes of the export, and did not fail
 abbrev pub Writes : Result (List ℕ) ExportRefusal → Writer → Writer → Type 0
