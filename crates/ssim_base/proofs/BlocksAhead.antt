@@ -3,15 +3,15 @@
 use Rattle.std.proofs.Common.{◌≡◌, ℕ, ◌+◌, ◌-◌, ◌%◌, ◌^◌, false, List, [], ◌∷◌, ◌++◌, length}
 use Rattle.std.proofs.Common.{Option, Some, None, refl, sym, ap, subst, ◌∙◌, append_assoc, arith}
 use Rattle.std.specs.Prelude.{IfNone}
-use Rattle.ssim_records.specs.clauses.Blocks.{CountGoesOn, CountsOn, Fetches}
+use Rattle.ssim_records.specs.clauses.Blocks.{BytesCame, CameFrom, Fetches}
 use Rattle.ssim_records.specs.Frames.{Frames, FramesExist, others}
 use Rattle.ssim_records.specs.clauses.Reading as reading
 use Rattle.ssim_records.specs.clauses.Reading.{FetchesNext, IsAhead, Reading}
 use Rattle.ssim_records.specs.Device.{Reader}
 use Rattle.ssim_records.specs.declared.records.Ending as records
-use Rattle.ssim_records.proofs.Framing.{counts_none, fetches_first, fetches_on}
+use Rattle.ssim_records.proofs.Framing.{came_none, fetches_first, fetches_on}
 use Rattle.ssim_base.specs.Reading.{AreBlocks}
-use Rattle.ssim_base.specs.clauses.Reading.{HaveCome}
+use Rattle.ssim_base.specs.clauses.Reading.{Came, HaveCome}
 use Rattle.ssim_base.specs.internal.DataSetReader.{unread}
 
 -- those before, and the others
@@ -62,13 +62,18 @@ rest-ahead limit all left left' r new before block later t came next ahead = rec
       ∙ sym (append_assoc before ((new.number, block) ∷ []) (others new.number later));
 }
 
--- a reader that does not report its bytes counted them
-pub counted-bytes : (start now n came : ℕ) → n ≡ came → CountGoesOn None None start now 0 came
-    → HaveCome None None start now n
-counted-bytes start now n came is counts =
-    let wrapped : (now + 0) % 2 ^ 128 ≡ (start + came) % 2 ^ 128 = counts in
+have-from : (left left' : Option (List ℕ)) (start now n : ℕ) → CameFrom left left' start now 0 n
+    → HaveCome left left' start now n
+have-from None None start now n h =
     let same : now + 0 ≡ now = omega arith in
-    ap (λ k. k % 2 ^ 128) (sym same) ∙ wrapped ∙ ap (λ k. (start + k) % 2 ^ 128) (sym is)
+    ap (λ k. k % 2 ^ 128) (sym same) ∙ h
+have-from None (Some y) start now n h = h
+have-from (Some x) None start now n h = h
+have-from (Some x) (Some y) start now n h = omega (arith, h)
+
+-- all bytes that came from a reader, of which none came before
+pub have-come : (before after : Reader) (n : ℕ) → BytesCame before after 0 n → Came before after n
+have-come before after n h = have-from before.left after.left before.came after.came n h
 
 -- ---- what was fetched
 
@@ -83,17 +88,16 @@ fetched-first left fresh =
     subst (λ (r : Reading). Fetches false 0 [] left r.number r.held left) (sym fresh)
     (fetches_first false 0 [] left)
 
-pub counted-first : {limit : ℕ} {r : Reading} (reader : Reader) → r ≡ unread limit
-    → CountsOn reader reader 0 r.came
-counted-first reader fresh =
-    subst (λ (r : Reading). CountsOn reader reader 0 r.came) (sym fresh)
-    (counts_none reader.left reader.came 0)
+pub came-first : {limit : ℕ} {r : Reading} (reader : Reader) → r ≡ unread limit
+    → BytesCame reader reader 0 r.came
+came-first reader fresh =
+    subst (λ (r : Reading). BytesCame reader reader 0 r.came) (sym fresh)
+    (came_none reader.left reader.came 0)
 
 -- one more call
-pub fetched-on : (told left left' : Option (List ℕ)) (old new : Reading) → old.ended ≡ None
-    → Fetches false 0 [] told old.number old.held left
-    → IfNone old.ended (FetchesNext old left new left')
+pub fetched-on : (told left left' : Option (List ℕ)) (old new : Reading)
+    → Fetches false 0 [] told old.number old.held left → FetchesNext old left new left'
     → Fetches false 0 [] told new.number new.held left'
-fetched-on told left left' old new open' so next =
+fetched-on told left left' old new so next =
     fetches_on 0 old.number new.number old.number new.number [] old.held new.held told left left' so
-    (while-open old.ended open' next) (omega arith)
+    next (omega arith)

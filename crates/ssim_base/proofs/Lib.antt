@@ -27,6 +27,7 @@ mod NotedReads
 pub mod ReadingBack
 pub mod BlocksAhead
 pub mod CameRecords
+pub mod RecordsAhead
 pub mod ReadingLemmas
 pub mod RestLemmas
 pub mod ProblemChecks

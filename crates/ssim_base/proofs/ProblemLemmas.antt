@@ -6,10 +6,10 @@ use Rattle.std.proofs.lemmas.List.{append-nil, length-append}
 use Rattle.std.proofs.lemmas.List.Folds.{list_any-append}
 use Rattle.std.proofs.Math.Bool.{or-false}
 use Rattle.std.specs.List.{list_any}
-use Rattle.ssim_records.specs.clauses.Blocks.{CountGoesOn, Fetches, beyond}
+use Rattle.ssim_records.specs.clauses.Blocks.{Fetches, beyond}
 use Rattle.ssim_records.specs.Frames.{Frames, FramesExist, others}
 use Rattle.ssim_records.specs.clauses.Reading as reading
-use Rattle.ssim_records.specs.clauses.Reading.{GivesNextBlock, HasNumber, Reading, without_block}
+use Rattle.ssim_records.specs.clauses.Reading.{GivesNext, HasNumber, HoldsFew, Reading}
 use Rattle.ssim_records.specs.declared.fault.RecordFault.{RecordFault}
 use Rattle.ssim_records.specs.declared.fault.RecordFault.TheVariants.{Short, BadType, BadColumn, ReadFault, ReaderNeverEnds}
 use Rattle.ssim_base.specs.Problems.{AreItems, AreProblems, After, HasProblems, Item}
@@ -17,13 +17,12 @@ use Rattle.ssim_base.specs.clauses.Problems.{NamesLast}
 use Rattle.ssim_base.specs.Problems.{Standing, after_item, begins_as_trailer, end_problem}
 use Rattle.ssim_base.specs.Problems.{missing_in, fault_at, problem_in, problems_in, standing_after}
 use Rattle.ssim_base.specs.Reading.{AreBlocks}
-use Rattle.ssim_base.specs.clauses.Reading.{HaveCome, NeverEnds}
 use Rattle.ssim_base.specs.internal.Problems.{IsNew, HasStanding, Takes}
 use Rattle.ssim_base.specs.declared.fault.BaseFault.TheVariants.{Read}
 use Rattle.ssim_base.specs.declared.problems.ProblemReader.{ProblemReader}
 use Rattle.ssim_base.specs.declared.problems.Problems.{Problems}
 use Rattle.ssim_base.specs.internal.DataSetReader.{unread}
-use Rattle.ssim_base.proofs.BlocksAhead.{AreAhead, all-ahead, counted-bytes, rest-ahead}
+use Rattle.ssim_base.proofs.BlocksAhead.{AreAhead, all-ahead, rest-ahead}
 use Rattle.ssim_base.proofs.ReadingLemmas.{after-complete}
 
 -- ---- the problems so far
@@ -114,14 +113,14 @@ told-none limit None exist = tt
 told-none limit (Some all) exist = all-ahead limit all exist
 
 pub told-block : (limit : ℕ) (told left left' : Option (List ℕ)) (r new : Reading) (before : List (ℕ × List ℕ)) (number : ℕ) (block : List ℕ) → ToldBlocks limit told left r before
-    → GivesNextBlock r left new left' (Ok (Some (number, block))) → ToldBlocks limit told left' new (before ++ (number, block) ∷ [])
-told-block limit None left left' r new before number block t given = tt
-told-block limit (Some all) None left' r new before number block t given = absurd t
-told-block limit (Some all) (Some left) None r new before number block t given = absurd given
-told-block limit (Some all) (Some left) (Some left') r new before number block t given =
+    → GivesNext r left new left' (Ok (Some (number, block))) → number ≡ new.number → ToldBlocks limit told left' new (before ++ (number, block) ∷ [])
+told-block limit None left left' r new before number block t given is = tt
+told-block limit (Some all) None left' r new before number block t given is = absurd t
+told-block limit (Some all) (Some left) None r new before number block t given is = absurd given
+told-block limit (Some all) (Some left) (Some left') r new before number block t given is =
     let a = given.1 t.later t.rest t.ahead in
-    subst (λ n. AreAhead limit all left' new (before ++ (n, block) ∷ [])) (sym a.2)
-    (rest-ahead limit all left left' r new before block a.0 t given.0 a.1 a.3)
+    subst (λ n. AreAhead limit all left' new (before ++ (n, block) ∷ [])) (sym is)
+    (rest-ahead limit all left left' r new before block a.0 t given.0 a.1 a.2)
 
 -- ---- the end
 
@@ -143,7 +142,7 @@ over-none limit all left r before t same none = let came = t.came in omega (arit
 
 -- the bytes end after a block
 pub problems-end : (limit : ℕ) (told left left' : Option (List ℕ)) (r new : Reading) (before : List (ℕ × List ℕ)) (found : ProblemReader) (p : Problems) → r.limit ≡ limit → (so : AreSoFar found before)
-    → ToldBlocks limit told left r before → GivesNextBlock r left new left' (Ok None) → p.records ≡ found.records
+    → ToldBlocks limit told left r before → GivesNext r left new left' (Ok None) → p.records ≡ found.records
     → p.faults.items ≡ found.faults.items ++ fault_at (new.number + 1) (missing_in so.standing found.trailer)
     → HasProblems limit told p
 problems-end limit None left left' r new before found p same so t given records faults = tt
@@ -162,7 +161,7 @@ problems-end limit (Some all) (Some left) (Some left') r new before found p same
 
 -- the bytes end within a record
 pub problems-cut : (limit : ℕ) (told left left' : Option (List ℕ)) (r new : Reading) (before : List (ℕ × List ℕ)) (found : ProblemReader) (p : Problems) (n : ℕ) → r.limit ≡ limit → (so : AreSoFar found before)
-    → ToldBlocks limit told left r before → GivesNextBlock r left new left' (Err (Short n)) → n ≡ new.number + 1 → p.records ≡ found.records
+    → ToldBlocks limit told left r before → GivesNext r left new left' (Err (Short n)) → n ≡ new.number + 1 → p.records ≡ found.records
     → p.faults.items ≡ found.faults.items ++ Read (Short n) ∷ [] → HasProblems limit told p
 problems-cut limit None left left' r new before found p n same so t given is records faults = tt
 problems-cut limit (Some all) None left' r new before found p n same so t given is records faults = absurd t
@@ -188,9 +187,9 @@ problems-cut limit (Some all) (Some left) (Some left') r new before found p n sa
 -- a reading that failed, or that more bytes came for than the limit
 pub names-last : (limit : ℕ) (told left left' : Option (List ℕ)) (r new : Reading)
     (before : List (ℕ × List ℕ)) (f : RecordFault)
-    → Fetches false 0 [] told new.number new.held left' → reading.HoldsFew new.held (Err f)
-    → ToldBlocks limit told left r before → GivesNextBlock r left new left' (Err f)
-    → HasNumber new.number (Err f) → NamesLast limit told left' (Read f)
+    → Fetches false 0 [] told new.number new.held left' → HoldsFew {A = Option (ℕ × List ℕ)} new (Err f)
+    → ToldBlocks limit told left r before → GivesNext r left new left' (Err f)
+    → HasNumber {A = List ℕ} r new (Err f) → NamesLast limit told left' (Read f)
 names-last limit told left left' r new before (Short n) fetched few t given is = tt
 names-last limit told left left' r new before (BadType n) fetched few t given is = tt
 names-last limit told left left' r new before (BadColumn n column) fetched few t given is = tt
@@ -205,27 +204,3 @@ names-last limit (Some all) (Some left) (Some left') r new before (ReaderNeverEn
     let a = given.1 t.later t.rest t.ahead in
     let count = count-blocks limit all left r new before t a.0 in
     (t.blocks, t.rest, t.framed, is ∙ ap (λ k. k + 1) count)
-
--- ---- how many bytes came
-
--- a reading of blocks that is refused as 14
-pub blocks-beyond : (limit : ℕ) (told left left' : Option (List ℕ)) (start now : ℕ) (r new : Reading) (before : List (ℕ × List ℕ)) (f : RecordFault) → new.limit ≡ limit → ToldBlocks limit told left r before
-    → GivesNextBlock r left new left' (Err f) → CountGoesOn told left' start now 0 new.came → reading.NeverEnds new (without_block (Err f)) → NeverEnds limit (HaveCome told left' start now) (Read f)
-blocks-beyond limit told left left' start now r new before (Short n) same t given counts over = tt
-blocks-beyond limit told left left' start now r new before (BadType n) same t given counts over = tt
-blocks-beyond limit told left left' start now r new before (BadColumn n column) same t given counts over = tt
-blocks-beyond limit told left left' start now r new before (ReadFault n) same t given counts over = tt
-blocks-beyond limit told left left' start now r new before (ReaderNeverEnds n) same t given counts over = came told left left' t given counts
-  where
-    is : limit + 1 ≡ new.came
-    is = sym (over.0 ∙ ap (λ k. k + 1) same)
-
-    came : (told left left' : Option (List ℕ)) → ToldBlocks limit told left r before → GivesNextBlock r left new left' (Err (ReaderNeverEnds n)) → CountGoesOn told left' start now 0 new.came
-        → HaveCome told left' start now (limit + 1)
-    came None left None t given counts =
-        counted-bytes start now (limit + 1) new.came is counts
-    came None left (Some y) t given counts = counts
-    came (Some all) None left' t given counts = absurd t
-    came (Some all) (Some left) None t given counts = given
-    came (Some all) (Some left) (Some left') t given counts =
-        ap (λ k. k + length left') is ∙ given.0 ∙ t.came

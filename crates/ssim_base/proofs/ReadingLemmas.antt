@@ -5,20 +5,22 @@ use Rattle.std.proofs.Common.{Err, inl, inr, refl, sym, ap, subst, ◌∙◌, ap
 use Rattle.std.proofs.lemmas.List.{append-nil, reverse-append}
 use Rattle.std.proofs.lemmas.List.Elements.{All-append}
 use Rattle.std.specs.List.{All}
-use Rattle.ssim_records.specs.clauses.Blocks.{CountGoesOn, Fetches, beyond}
+use Rattle.ssim_records.specs.clauses.Blocks.{Fetches, beyond}
 use Rattle.ssim_records.specs.Frames.{Frames, FramesExist, others}
 use Rattle.ssim_records.specs.clauses.Reading as reading
-use Rattle.ssim_records.specs.clauses.Reading.{Answer, FetchesNext, Reading, GivesNext, HasNumber}
+use Rattle.ssim_records.specs.clauses.Reading.{FetchesNext, GivesNext}
+use Rattle.ssim_records.specs.clauses.Reading.{HasNumber, HoldsFew, Reading}
 use Rattle.ssim_records.specs.Record.{IsRecord, fault_of, serial_of}
 use Rattle.ssim_records.specs.declared.fault.RecordFault.{RecordFault}
 use Rattle.ssim_records.specs.declared.fault.RecordFault.TheVariants.{Short, BadType, BadColumn, ReadFault, ReaderNeverEnds}
 use Rattle.ssim_records.specs.declared.record.Record.{Record}
 use Rattle.ssim_records.proofs.Framing.{takes_all}
+use Rattle.ssim_records.proofs.Readings.{block_fault}
 use Rattle.ssim_base.specs.Base.{Ending, Done, Broken, Outcome, at_record, check_notes, data_set, first_refusal, kept, kept_all, missing, note_if, notes_of, refusal_at, unless_refused}
 use Rattle.ssim_base.specs.internal.DataSetReader.{IsSoFar, notes_at, unread}
 use Rattle.ssim_base.specs.internal.Acceptance.{HasAccepted, IsRecordRefused, AcceptsNext}
 use Rattle.ssim_base.specs.Reading.{AreGiven, Begins, Gives}
-use Rattle.ssim_base.specs.clauses.Reading.{HaveCome, FailsAfter, FailsAs}
+use Rattle.ssim_base.specs.clauses.Reading.{FailsAfter, FailsAs}
 use Rattle.ssim_base.specs.clauses.Reading.{IsAfterComplete, NeverEnds}
 use Rattle.ssim_base.specs.Reading.{IsReadOf, Stops}
 use Rattle.ssim_base.specs.internal.Reading.{AreGivenOf, Refuses}
@@ -30,10 +32,11 @@ use Rattle.ssim_base.specs.declared.fault.BaseRefusal.{BaseRefusal}
 use Rattle.ssim_base.specs.declared.data_set.reader.DataSetReader.{DataSetReader}
 use Rattle.ssim_base.specs.declared.note.Note.{Note}
 use Rattle.ssim_base.specs.declared.note.Note.TheVariants.{Serial}
-use Rattle.ssim_base.proofs.BlocksAhead.{AreAhead, all-ahead, counted-bytes, rest-ahead}
+use Rattle.ssim_base.proofs.BlocksAhead.{AreAhead, all-ahead, rest-ahead}
 use Rattle.ssim_base.proofs.CameRecords.{After, UpTo, first-blocks, others-after, others-append}
 use Rattle.ssim_base.proofs.CameRecords.{others-up-to, part-once, up-to-append, up-to-more}
 use Rattle.ssim_base.proofs.FirstRefusals.{all_allowed}
+use Rattle.ssim_base.proofs.RecordsAhead.{GivesRecord, IsInvalid}
 
 abbrev pub Numbered : Type 0
 Numbered = ℕ × Record
@@ -140,27 +143,27 @@ told-first limit (Some all) exist =
     record { before = []; are = all-ahead limit all exist; spelled = tt; few = tt }
 
 step : (limit : ℕ) (all left left' : List ℕ) (r new : Reading) (done : List Numbered) (x : Numbered)
-    → IsTold limit all left r done → GivesNext r (Some left) new (Some left') (Ok (Some x))
+    → IsTold limit all left r done → GivesRecord r (Some left) new (Some left') (Ok (Some x))
     → IsTold limit all left' new (done ++ x ∷ [])
 step limit all left left' r new done x t given =
-    let a = given.1 t.are.later t.are.rest t.are.ahead in
-    let block = a.0 in
-    let next = a.2 in
+    let block = given.0 in
+    let a = given.1.1 t.are.later t.are.rest t.are.ahead in
+    let next = a.1 in
     let after = subst (After r.number) next.0 (others-after r.number t.are.later) in
     record {
       before = t.before ++ (new.number, block) ∷ [];
-      are = rest-ahead limit all left left' r new t.before block a.1 t.are given.0 next a.5;
-      spelled = each-append t.before ((new.number, block) ∷ []) done (x ∷ []) t.spelled (sym a.3, a.4, tt);
+      are = rest-ahead limit all left left' r new t.before block a.0 t.are given.1.0 next a.2;
+      spelled = each-append t.before ((new.number, block) ∷ []) done (x ∷ []) t.spelled (sym given.2, given.3, tt);
       few =
           up-to-append new.number t.before ((new.number, block) ∷ [])
           (up-to-more r.number new.number t.before (omega (arith, after.0)) t.few) (omega arith, tt);
     }
 
-pub told-step : (limit : ℕ) (told left left' : Option (List ℕ)) (r new : Reading) (done : List Numbered) (x : Numbered) → Told limit told left r done → GivesNext r left new left' (Ok (Some x))
+pub told-step : (limit : ℕ) (told left left' : Option (List ℕ)) (r new : Reading) (done : List Numbered) (x : Numbered) → Told limit told left r done → GivesRecord r left new left' (Ok (Some x))
     → Told limit told left' new (done ++ x ∷ [])
 told-step limit None left left' r new done x t given = tt
 told-step limit (Some all) None left' r new done x t given = absurd t
-told-step limit (Some all) (Some left) None r new done x t given = absurd given
+told-step limit (Some all) (Some left) None r new done x t given = absurd given.1
 told-step limit (Some all) (Some left) (Some left') r new done x t given = step limit all left left' r new done x t given
 
 -- ---- how reading ends
@@ -199,10 +202,11 @@ told-end limit (Some all) (Some left) (Some left') r new done same t given =
     let count = last.1 ∙ t.are.count in
     (last.0, a.1, sym (over-is limit all left r done t same) ∙ a.2, ap (λ n. n + 1) count)
 
--- the blocks stop at the record that is refused
+-- the blocks stop, since no block came
 stops : (limit : ℕ) (all left left' : List ℕ) (r new : Reading) (done : List Numbered)
     (f : RecordFault) → r.limit ≡ limit → (t : IsTold limit all left r done)
-    → GivesNext r (Some left) new (Some left') (Err f) → HasNumber new.number (Err f)
+    → GivesNext r (Some left) new (Some left') (Err f)
+    → HasNumber {A = Record} r new (Err f)
     → Stops (length t.are.blocks) t.are.rest (length all - limit) (others r.number t.are.later)
     (Broken f)
 stops limit all left left' r new done (Short n) same t given number =
@@ -211,13 +215,9 @@ stops limit all left left' r new done (Short n) same t given number =
     let count = last.1 ∙ t.are.count in
     (last.0, a.1, sym (over-is limit all left r done t same) ∙ a.3, number ∙ ap (λ n. n + 1) count)
 stops limit all left left' r new done (BadType n) same t given number =
-    let a = given.1 t.are.later t.are.rest t.are.ahead in
-    let next = a.2 in
-    (a.0, others new.number a.1, next.0 ∙ ap (λ k. (k, a.0) ∷ others new.number a.1) (sym number), subst (λ k. fault_of k a.0 ≡ Some (BadType n)) (sym number) a.3)
+    absurd (given.1 t.are.later t.are.rest t.are.ahead)
 stops limit all left left' r new done (BadColumn n column) same t given number =
-    let a = given.1 t.are.later t.are.rest t.are.ahead in
-    let next = a.2 in
-    (a.0, others new.number a.1, next.0 ∙ ap (λ k. (k, a.0) ∷ others new.number a.1) (sym number), subst (λ k. fault_of k a.0 ≡ Some (BadColumn n column)) (sym number) a.3)
+    absurd (given.1 t.are.later t.are.rest t.are.ahead)
 stops limit all left left' r new done (ReadFault n) same t given number =
     let a = given.1 t.are.later t.are.rest t.are.ahead in
     let count = t.are.count in
@@ -229,22 +229,49 @@ stops limit all left left' r new done (ReaderNeverEnds n) same t given number =
     let more = subst (λ k. 0 < k) (over-is limit all left r done t same) a.1 in
     (last.0, more, number ∙ ap (λ n. n + 1) (last.1 ∙ t.are.count))
 
+-- the blocks stop at an invalid one
+stops-at : (limit : ℕ) (all left left' : List ℕ) (r new : Reading) (done : List Numbered)
+    (f : RecordFault) → (t : IsTold limit all left r done)
+    → IsInvalid r (Some left) new (Some left') f
+    → Stops (length t.are.blocks) t.are.rest (length all - limit) (others r.number t.are.later)
+    (Broken f)
+stops-at limit all left left' r new done (Short n) t given =
+    absurd (block_fault new.number given.0 (Short n) given.2)
+stops-at limit all left left' r new done (BadType n) t given =
+    let a = given.1.1 t.are.later t.are.rest t.are.ahead in
+    let number = block_fault new.number given.0 (BadType n) given.2 in
+    (given.0, others new.number a.0, a.1.0 ∙ ap (λ k. (k, given.0) ∷ others new.number a.0) (sym number), subst (λ k. fault_of k given.0 ≡ Some (BadType n)) (sym number) given.2)
+stops-at limit all left left' r new done (BadColumn n column) t given =
+    let a = given.1.1 t.are.later t.are.rest t.are.ahead in
+    let number = block_fault new.number given.0 (BadColumn n column) given.2 in
+    (given.0, others new.number a.0, a.1.0 ∙ ap (λ k. (k, given.0) ∷ others new.number a.0) (sym number), subst (λ k. fault_of k given.0 ≡ Some (BadColumn n column)) (sym number) given.2)
+stops-at limit all left left' r new done (ReadFault n) t given =
+    absurd (block_fault new.number given.0 (ReadFault n) given.2)
+stops-at limit all left left' r new done (ReaderNeverEnds n) t given =
+    absurd (block_fault new.number given.0 (ReaderNeverEnds n) given.2)
+
 pub told-fault : (limit : ℕ) (told left left' : Option (List ℕ)) (r new : Reading) (g : DataSetReader) (earlier : List Record) (done : List Numbered) (f : RecordFault) → r.limit ≡ limit
-    → IsSoFar g earlier done → Told limit told left r done → GivesNext r left new left' (Err f) → HasNumber new.number (Err f) → IsReadOf limit told (Err (Read f))
+    → IsSoFar g earlier done → Told limit told left r done → GivesRecord r left new left' (Err f) → HasNumber {A = Record} r new (Err f) → IsReadOf limit told (Err (Read f))
 told-fault limit None left left' r new g earlier done f same so_far t given number =
     record { records = done; ending = Broken f; valid = so_far.records; is = fault-outcome g earlier done f so_far }
 told-fault limit (Some all) None left' r new g earlier done f same so_far t given number = absurd t
-told-fault limit (Some all) (Some left) None r new g earlier done f same so_far t given number = absurd given
+told-fault limit (Some all) (Some left) None r new g earlier done f same so_far t given number =
+    absurd (elim given [ inl h ↦ h | inr h ↦ h.1 ])
 told-fault limit (Some all) (Some left) (Some left') r new g earlier done f same so_far t given number =
     inl (record {
       records = done;
       ending = Broken f;
-      given = given-by limit all left r done (Broken f) t (stops limit all left left' r new done f same t given number);
+      given =
+          given-by limit all left r done (Broken f) t
+          (elim given [
+            | inl h ↦ stops limit all left left' r new done f same t h number
+            | inr h ↦ stops-at limit all left left' r new done f t h
+          ]);
       is = fault-outcome g earlier done f so_far;
     })
 
 pub told-refused : (limit : ℕ) (told left left' : Option (List ℕ)) (r new : Reading) (g : DataSetReader) (earlier : List Record) (done : List Numbered) (x : Numbered) (refusal : BaseRefusal)
-    → IsSoFar g earlier done → Told limit told left r done → GivesNext r left new left' (Ok (Some x)) → refusal_at earlier x.1 ≡ Some refusal → IsRecord x.1
+    → IsSoFar g earlier done → Told limit told left r done → GivesRecord r left new left' (Ok (Some x)) → refusal_at earlier x.1 ≡ Some refusal → IsRecord x.1
     → IsReadOf limit told (Err (Refused x.0 refusal))
 told-refused limit None left left' r new g earlier done x refusal so_far t given is valid =
     record {
@@ -254,7 +281,7 @@ told-refused limit None left left' r new g earlier done x refusal so_far t given
       is = refused-outcome g earlier done [] (Done 0) x refusal so_far is ∙ ap (data_set (Done 0)) (append-nil (done ++ x ∷ []));
     }
 told-refused limit (Some all) None left' r new g earlier done x refusal so_far t given is valid = absurd t
-told-refused limit (Some all) (Some left) None r new g earlier done x refusal so_far t given is valid = absurd given
+told-refused limit (Some all) (Some left) None r new g earlier done x refusal so_far t given is valid = absurd given.1
 told-refused limit (Some all) (Some left) (Some left') r new g earlier done x refusal so_far t given is valid =
     let after = step limit all left left' r new done x t given in
     let left = others new.number after.are.later in
@@ -274,7 +301,7 @@ told-refused limit (Some all) (Some left) (Some left') r new g earlier done x re
 -- the refusal of a record, if one more was read
 pub step-refused : (limit : ℕ) (told left left' : Option (List ℕ)) (r new : Reading) (g : DataSetReader) (earlier : List Record) (done : List Numbered) (x : Numbered) (e : BaseFault)
     → IsSoFar g earlier done → Told limit told left r done
-    → GivesNext r left new left' (Ok (Some x)) → IsRecordRefused x.0 earlier x.1 e → IsRecord x.1
+    → GivesRecord r left new left' (Ok (Some x)) → IsRecordRefused x.0 earlier x.1 e → IsRecord x.1
     → Refuses limit told e
 step-refused limit told left left' r new g earlier done x fault.Memory so_far t given is valid = tt
 step-refused limit told left left' r new g earlier done x (Read f) so_far t given is valid = absurd is
@@ -283,25 +310,16 @@ step-refused limit told left left' r new g earlier done x (Refused n refusal) so
 
 -- ---- how many bytes came
 
-pub came-in : (limit : ℕ) (told left left' : Option (List ℕ)) (start now n : ℕ) (r new : Reading) (done : List Numbered) (a : Answer) → n ≡ new.came → Told limit told left r done
-    → GivesNext r left new left' a → CountGoesOn told left' start now 0 new.came → HaveCome told left' start now n
-came-in limit None left None start now n r new done a is t given counts =
-    counted-bytes start now n new.came is counts
-came-in limit None left (Some y) start now n r new done a is t given counts = counts
-came-in limit (Some all) None left' start now n r new done a is t given counts = absurd t
-came-in limit (Some all) (Some left) None start now n r new done a is t given counts = given
-came-in limit (Some all) (Some left) (Some left') start now n r new done a is t given counts =
-    ap (λ k. k + length left') is ∙ given.0 ∙ t.are.came
-
 -- a reading that is refused as 14
-pub ended-beyond : (limit : ℕ) (told left left' : Option (List ℕ)) (start now : ℕ) (r new : Reading) (done : List Numbered) (f : RecordFault) → new.limit ≡ limit → Told limit told left r done
-    → GivesNext r left new left' (Err f) → CountGoesOn told left' start now 0 new.came → reading.NeverEnds new (Err f) → NeverEnds limit (HaveCome told left' start now) (Read f)
-ended-beyond limit told left left' start now r new done (Short n) same t given counts over = tt
-ended-beyond limit told left left' start now r new done (BadType n) same t given counts over = tt
-ended-beyond limit told left left' start now r new done (BadColumn n column) same t given counts over = tt
-ended-beyond limit told left left' start now r new done (ReadFault n) same t given counts over = tt
-ended-beyond limit told left left' start now r new done (ReaderNeverEnds n) same t given counts over =
-    came-in limit told left left' start now (limit + 1) r new done (Err (ReaderNeverEnds n)) (sym (over.0 ∙ ap (λ k. k + 1) same)) t given counts
+pub ended-beyond : (A : Type 0) (limit : ℕ) (CameFrom : ℕ → Type 0) (new : Reading) (f : RecordFault)
+    → new.limit ≡ limit → CameFrom new.came → HoldsFew {A = A} new (Err f)
+    → NeverEnds limit CameFrom (Read f)
+ended-beyond A limit CameFrom new (Short n) same came few = tt
+ended-beyond A limit CameFrom new (BadType n) same came few = tt
+ended-beyond A limit CameFrom new (BadColumn n column) same came few = tt
+ended-beyond A limit CameFrom new (ReadFault n) same came few = tt
+ended-beyond A limit CameFrom new (ReaderNeverEnds n) same came few =
+    subst CameFrom (few.0 ∙ ap (λ k. k + 1) same) came
 
 -- a record is never refused as 14
 pub never-refused : (limit : ℕ) (CameFrom : ℕ → Type 0) (n : ℕ) (earlier : List Record) (r : Record) (e : BaseFault)
@@ -320,13 +338,13 @@ refused-fails old new n earlier r (Read f) is same = absurd is
 refused-fails old new n earlier r (Refused m refusal) is same = same
 
 -- a fault of the next record counts a failure if it is 13
-pub fault-fails : (old mid new : ℕ) (f : RecordFault) → mid ≡ old
-    → reading.FailsAs mid new (Err f) → FailsAs old new (Read f)
-fault-fails old mid new (Short n) same h = h ∙ same
-fault-fails old mid new (BadType n) same h = h ∙ same
-fault-fails old mid new (BadColumn n column) same h = h ∙ same
-fault-fails old mid new (ReadFault n) same h = h ∙ ap (λ k. (k + 1) % 2 ^ 64) same
-fault-fails old mid new (ReaderNeverEnds n) same h = h ∙ same
+pub fault-fails : (A : Type 0) (old mid new : ℕ) (f : RecordFault) → mid ≡ old
+    → reading.FailsAs {A = A} mid new (Err f) → FailsAs old new (Read f)
+fault-fails A old mid new (Short n) same h = h ∙ same
+fault-fails A old mid new (BadType n) same h = h ∙ same
+fault-fails A old mid new (BadColumn n column) same h = h ∙ same
+fault-fails A old mid new (ReadFault n) same h = h ∙ ap (λ k. (k + 1) % 2 ^ 64) same
+fault-fails A old mid new (ReaderNeverEnds n) same h = h ∙ same
 
 -- ---- which record a reading fails at
 
@@ -386,9 +404,9 @@ all-came limit all left left' r new g earlier done n so_far t given more fetched
 
 pub fails-after : (limit : ℕ) (told left left' : Option (List ℕ)) (r new : Reading)
     (g : DataSetReader) (earlier : List Record) (done : List Numbered) (f : RecordFault)
-    → IsSoFar g earlier done → Told limit told left r done → GivesNext r left new left' (Err f)
+    → IsSoFar g earlier done → Told limit told left r done → GivesRecord r left new left' (Err f)
     → FetchesNext r left new left' → Fetches false 0 [] told new.number new.held left'
-    → HasNumber new.number (Err f) → reading.HoldsFew new.held (Err f)
+    → HasNumber {A = Record} r new (Err f) → HoldsFew {A = Option Numbered} new (Err f)
     → FailsAfter told left' (Read f)
 fails-after limit told left left' r new g earlier done (Short n) so t given more fetched is few = tt
 fails-after limit told left left' r new g earlier done (BadType n) so t given more fetched is few =
@@ -400,10 +418,12 @@ fails-after limit None left left' r new g earlier done (ReadFault n) so t given 
 fails-after limit (Some all) None left' r new g earlier done (ReadFault n) so t given more fetched is
     few = absurd t
 fails-after limit (Some all) (Some left) None r new g earlier done (ReadFault n) so t given more
-    fetched is few = absurd given
+    fetched is few = absurd more
 fails-after limit (Some all) (Some left) (Some left') r new g earlier done (ReadFault n) so t given
-    more fetched is few =
-    all-came limit all left left' r new g earlier done n so t given more fetched is few
+    more fetched is few = elim given [
+      | inl h ↦ all-came limit all left left' r new g earlier done n so t h more fetched is few
+      | inr h ↦ absurd (block_fault new.number h.0 (ReadFault n) h.2)
+    ]
 fails-after limit told left left' r new g earlier done (ReaderNeverEnds n) so t given more fetched is
     few = tt
 

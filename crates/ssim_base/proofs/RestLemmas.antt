@@ -4,7 +4,7 @@ use Rattle.std.proofs.Common.{length, reverse, Option, Some, None, Ok, Err, inl,
 use Rattle.std.proofs.Common.{subst, ◌∙◌, append_assoc, arith}
 use Rattle.std.specs.Prelude.{IfSome}
 use Rattle.std.specs.Io.KnownBytes.{IsAtEnd}
-use Rattle.ssim_records.specs.clauses.Blocks.{CameOn, CountGoesOn, CountsOn, Fetches, StaysLeft}
+use Rattle.ssim_records.specs.clauses.Blocks.{BytesCame, CameFrom, Fetches, StaysLeft}
 use Rattle.ssim_records.specs.Frames.{others}
 use Rattle.ssim_records.specs.Device.{Reader}
 use Rattle.ssim_records.specs.clauses.Reading.{Reading, HasNumber, RestFails}
@@ -84,13 +84,13 @@ whole-read {limit} {told} {Has} {g} {number} h none =
 -- ---- the bytes that are left
 
 -- what bytes are read as, if the bytes that are left end within the limit
-rest-within : (limit : ℕ) (told left left' : Option (List ℕ)) (start now came came' : ℕ)
-    → HaveCome told left start now came → CameOn left left' came came' → IsAtEnd left'
+rest-within : (limit : ℕ) (told left left' : Option (List ℕ)) (start mid now came came' : ℕ)
+    → HaveCome told left start mid came → CameFrom left left' mid now came came' → IsAtEnd left'
     → came' ≤ limit → IfSome told (λ bytes. length bytes ≤ limit)
-rest-within limit None left left' start now came came' h on end within = tt
-rest-within limit (Some all) None left' start now came came' h on end within = absurd h
-rest-within limit (Some all) (Some x) None start now came came' h on end within = absurd on
-rest-within limit (Some all) (Some x) (Some y) start now came came' h on end within =
+rest-within limit None left left' start mid now came came' h on end within = tt
+rest-within limit (Some all) None left' start mid now came came' h on end within = absurd h
+rest-within limit (Some all) (Some x) None start mid now came came' h on end within = absurd on
+rest-within limit (Some all) (Some x) (Some y) start mid now came came' h on end within =
     omega (arith, h, on, ap length end, within)
 
 -- a fault of bytes within the limit
@@ -105,12 +105,13 @@ whole-refused limit told (Read (ReaderNeverEnds n)) h within = tt
 whole-refused limit told (Refused n refusal) h within = (h, within)
 
 -- the fault of the bytes, if those that are left end within the limit
-pub rest-refused : (limit : ℕ) (told left left' : Option (List ℕ)) (start now came came' : ℕ)
-    (e : BaseFault) → Refuses limit told e → HaveCome told left start now came
-    → CameOn left left' came came' → IsAtEnd left' → came' ≤ limit → RefusesWhole limit told e
-rest-refused limit told left left' start now came came' e h c on end within =
-    whole-refused limit told e h
-    (rest-within limit told left left' start now came came' c on end within)
+pub rest-refused : (limit : ℕ) (told mid new : Reader) (came came' : ℕ) (e : BaseFault)
+    → Refuses limit told.left e → Came told mid came → BytesCame mid new came came'
+    → IsAtEnd new.left → came' ≤ limit → RefusesWhole limit told.left e
+rest-refused limit told mid new came came' e h c on end within =
+    whole-refused limit told.left e h
+    (rest-within limit told.left mid.left new.left told.came mid.came new.came came came' c on end
+    within)
 
 -- a fault that is not of the bytes says nothing of them
 pub other-refused : (limit : ℕ) (told : Option (List ℕ)) (e : BaseFault) → is_of_bytes e ≡ false
@@ -157,14 +158,14 @@ bytes-fail old new now (Refused n refusal) is h same = same ∙ h
 
 -- bytes that came after others
 came-then : (told left left' : Option (List ℕ)) (start mid now came came' : ℕ)
-    → HaveCome told left start mid came → CameOn left left' came came'
-    → CountGoesOn left left' mid now came came' → HaveCome told left' start now came'
-came-then None None None start mid now came came' c on counts = omega (arith, c, counts)
-came-then None None (Some y) start mid now came came' c on counts = absurd counts
-came-then None (Some x) left' start mid now came came' c on counts = absurd c
-came-then (Some all) None left' start mid now came came' c on counts = absurd c
-came-then (Some all) (Some x) None start mid now came came' c on counts = absurd on
-came-then (Some all) (Some x) (Some y) start mid now came came' c on counts = on ∙ c
+    → HaveCome told left start mid came → CameFrom left left' mid now came came'
+    → HaveCome told left' start now came'
+came-then None None None start mid now came came' c on = omega (arith, c, on)
+came-then None None (Some y) start mid now came came' c on = absurd on
+came-then None (Some x) left' start mid now came came' c on = absurd c
+came-then (Some all) None left' start mid now came came' c on = absurd c
+came-then (Some all) (Some x) None start mid now came came' c on = absurd on
+came-then (Some all) (Some x) (Some y) start mid now came came' c on = on ∙ c
 
 -- a fault of the rest: what it counts
 pub rest-fails : (r : Reading) (old : ℕ) (mid new : Reader) (f : RecordFault) → mid.failures ≡ old
@@ -177,16 +178,15 @@ rest-fails r old mid new (ReaderNeverEnds n) same h = h.1 ∙ same
 
 -- a fault of the rest: how many bytes came
 pub rest-ends : (limit : ℕ) (told mid new : Reader) (came : ℕ) (r : Reading) (f : RecordFault)
-    → r.limit ≡ limit → Came told mid came → CameOn mid.left new.left came r.came
-    → CountsOn mid new came r.came → RestFails r mid new (Err f)
-    → NeverEnds limit (Came told new) (Read f)
-rest-ends limit told mid new came r (Short n) same c on counts h = tt
-rest-ends limit told mid new came r (BadType n) same c on counts h = tt
-rest-ends limit told mid new came r (BadColumn n column) same c on counts h = tt
-rest-ends limit told mid new came r (ReadFault n) same c on counts h = tt
-rest-ends limit told mid new came r (ReaderNeverEnds n) same c on counts h =
+    → r.limit ≡ limit → Came told mid came → BytesCame mid new came r.came
+    → RestFails r mid new (Err f) → NeverEnds limit (Came told new) (Read f)
+rest-ends limit told mid new came r (Short n) same c on h = tt
+rest-ends limit told mid new came r (BadType n) same c on h = tt
+rest-ends limit told mid new came r (BadColumn n column) same c on h = tt
+rest-ends limit told mid new came r (ReadFault n) same c on h = tt
+rest-ends limit told mid new came r (ReaderNeverEnds n) same c on h =
     subst (Came told new) (h.2 ∙ ap (λ k. k + 1) same)
-    (came-then told.left mid.left new.left told.came mid.came new.came came r.came c on counts)
+    (came-then told.left mid.left new.left told.came mid.came new.came came r.came c on)
 
 -- a fault of the rest says nothing of the bytes
 pub rest-other : (limit : ℕ) (told : Option (List ℕ)) (r : Reading) (old new : Reader)
@@ -209,13 +209,13 @@ after-refused number n earlier r (Refused m refusal) is same of_bytes =
     ap (λ k. k + 1) (sym (is.0 ∙ same))
 
 -- so has a block that spells no record
-pub after-fault : (number : ℕ) (f : RecordFault) → HasNumber number (Err f)
-    → is_of_bytes (Read f) ≡ true → IsRecordAfter (Read f) (number + 1)
-after-fault number (Short n) is of_bytes = sym is
-after-fault number (BadType n) is of_bytes = ap (λ k. k + 1) (sym is)
-after-fault number (BadColumn n column) is of_bytes = ap (λ k. k + 1) (sym is)
-after-fault number (ReadFault n) is of_bytes = absurd cc
-after-fault number (ReaderNeverEnds n) is of_bytes = absurd cc
+pub after-fault : (old new : Reading) (f : RecordFault) → HasNumber {A = Record} old new (Err f)
+    → is_of_bytes (Read f) ≡ true → IsRecordAfter (Read f) (new.number + 1)
+after-fault old new (Short n) is of_bytes = sym is
+after-fault old new (BadType n) is of_bytes = ap (λ k. k + 1) (sym is)
+after-fault old new (BadColumn n column) is of_bytes = ap (λ k. k + 1) (sym is)
+after-fault old new (ReadFault n) is of_bytes = absurd cc
+after-fault old new (ReaderNeverEnds n) is of_bytes = absurd cc
 
 -- the fault came before any invalid record
 pub names-first : (limit : ℕ) (all left : Option (List ℕ)) (e : BaseFault) → Refuses limit all e

@@ -11,7 +11,7 @@ use Rattle.ssim_records.specs.declared.blocks.BlockStop.TheVariants.{Short, Read
 use Rattle.ssim_records.specs.declared.device.DeviceFault.{DeviceFault}
 use Rattle.ssim_records.specs.clauses.Device.{CountChanges}
 use Rattle.ssim_records.specs.Frames.{trim, Frames, others, is_fill}
-use Rattle.ssim_records.specs.clauses.Blocks.{CameOn, SameAhead, CountGoesOn, Fetches, StaysLeft}
+use Rattle.ssim_records.specs.clauses.Blocks.{CameFrom, SameAhead, Fetches, StaysLeft}
 use Rattle.ssim_records.specs.clauses.Blocks.{Takes}
 use Rattle.ssim_records.specs.internal.Blocks.{NextBlock, GivesBlock, GivesOther, Ahead}
 use Rattle.ssim_records.proofs.LineEnds.{trim_front, trim_pass, trim_twice, trim_less}
@@ -102,12 +102,6 @@ all_held after_block limit came0 came old held trimmed new (Some x) left1 (Some 
     let on = stays_on after_block came0 came old held trimmed new (Some x) left1 (Some y) 0 stays is same (omega (arith, ap length kept)) in
     (omega (arith, on.1, z), sym (same_ahead after_block came0 (came + 0) old new x y on) ∙ ap (λ (t : List ℕ). trim after_block (new ++ t)) end' ∙ ap (trim after_block) (append-nil new ∙ kept ∙ is) ∙ trim_twice after_block held ∙ sym is ∙ sym kept, end')
 
-pub ends_empty : (after_block : Bool) (limit came0 came : ℕ) (old new : List ℕ) (left0 left2 : Option (List ℕ)) → AllHeld limit after_block came0 old left0 came new left2 → length new ≡ 0 → came ≤ limit → GivesBlock limit after_block came0 old left0 came new left2 (Ok None)
-ends_empty after_block limit came0 came old new None left2 all empty within = tt
-ends_empty after_block limit came0 came old new (Some x) None all empty within = all
-ends_empty after_block limit came0 came old [] (Some x) (Some y) all empty within = (all.0, (all.1, omega (arith, all.0, ap length all.2)))
-ends_empty after_block limit came0 came old (b ∷ bs) (Some x) (Some y) all empty within = absurd (omega (arith, empty))
-
 pub ends_short : (after_block : Bool) (limit came0 came : ℕ) (old new : List ℕ) (left0 left2 : Option (List ℕ)) → AllHeld limit after_block came0 old left0 came new left2 → 0 < length new → length new < 200 → came ≤ limit → GivesBlock limit after_block came0 old left0 came new left2 (Err Short)
 ends_short after_block limit came0 came old new None left2 all some short within = tt
 ends_short after_block limit came0 came old new (Some x) None all some short within = all
@@ -129,23 +123,55 @@ faulted after_block limit came0 came old held trimmed new (Some x) left1 (Some y
     let on = stays_on after_block came0 came old held trimmed new (Some x) left1 (Some y) 0 stays is same (omega (arith, len)) in
     (omega (arith, on.1), tt)
 
--- ---- counts
+-- ---- the bytes that came
+
+pub came_none : (l : Option (List ℕ)) (k came : ℕ) → CameFrom l l k k came came
+came_none None k came = refl
+came_none (Some x) k came = refl
+
+pub came_twice : (l0 l1 l2 : Option (List ℕ)) (k0 k1 k2 came0 came1 came2 : ℕ)
+    → CameFrom l0 l1 k0 k1 came0 came1 → CameFrom l1 l2 k1 k2 came1 came2
+    → CameFrom l0 l2 k0 k2 came0 came2
+came_twice None None None k0 k1 k2 came0 came1 came2 h k = omega (arith, h, k)
+came_twice None None (Some z) k0 k1 k2 came0 came1 came2 h k = k
+came_twice None (Some y) l2 k0 k1 k2 came0 came1 came2 h k = absurd h
+came_twice (Some x) None l2 k0 k1 k2 came0 came1 came2 h k = absurd h
+came_twice (Some x) (Some y) None k0 k1 k2 came0 came1 came2 h k = k
+came_twice (Some x) (Some y) (Some z) k0 k1 k2 came0 came1 came2 h k = k ∙ h
 
 -- n bytes more came, and are held
-pub came_more : (l0 l1 l2 : Option (List ℕ)) (held : List ℕ) (came0 came n : ℕ) → CameOn l0 l1 came0 came → SameAhead [] l1 held l2 → length held ≡ n → CameOn l0 l2 came0 (came + n)
-came_more None l1 l2 held came0 came n h same is = tt
-came_more (Some x) None l2 held came0 came n h same is = absurd h
-came_more (Some x) (Some y) None held came0 came n h same is = same
-came_more (Some x) (Some y) (Some z) held came0 came n h same is = omega (arith, h, is, ap length same, length-append held z)
+pub came_fetched : (held held' : List ℕ) (l l' : Option (List ℕ)) (k k' came n : ℕ)
+    → SameAhead held l held' l' → length held' ≡ length held + n → CountChanges l l' k k' (Ok n)
+    → CameFrom l l' k k' came (came + n)
+came_fetched held held' None None k k' came n same long counted =
+    let moved : (k + n) + came ≡ k + (came + n) = omega arith in
+    ap (λ (x : ℕ). (x + came) % 2 ^ 128) counted
+    ∙ mod-add-mod (k + n) (2 ^ 128) came
+    ∙ ap (λ (x : ℕ). x % 2 ^ 128) moved
+came_fetched held held' None (Some y) k k' came n same long counted = counted
+came_fetched held held' (Some x) None k k' came n same long counted = same
+came_fetched held held' (Some x) (Some y) k k' came n same long counted =
+    omega (arith, ap length same, length-append held x, length-append held' y, long)
 
-pub came_none : (l : Option (List ℕ)) (came : ℕ) → CameOn l l came came
-came_none None came = tt
-came_none (Some x) came = refl
+-- the reader is at its end
+pub came_end : (held held' : List ℕ) (l l' : Option (List ℕ)) (k k' came : ℕ)
+    → SameAhead held l held' l' → length held' ≡ length held → CountChanges l l' k k' (Ok 0)
+    → CameFrom l l' k k' came came
+came_end held held' l l' k k' came same long counted =
+    let none : came + 0 ≡ came = omega arith in
+    subst (CameFrom l l' k k' came) none
+    (came_fetched held held' l l' k k' came 0 same (omega (arith, long)) counted)
 
--- the bytes that are left, before and after some of them are fetched
-pub left_none : (l : Option (List ℕ)) → StaysLeft l l
-left_none None = tt
-left_none (Some x) = ([], refl)
+-- the reader failed
+pub came_failed : (held held' : List ℕ) (l l' : Option (List ℕ)) (k k' came : ℕ) (e : DeviceFault)
+    → SameAhead held l held' l' → length held' ≡ length held → CountChanges l l' k k' (Err e)
+    → CameFrom l l' k k' came came
+came_failed held held' None None k k' came e same long counted =
+    ap (λ (x : ℕ). (x + came) % 2 ^ 128) counted
+came_failed held held' None (Some y) k k' came e same long counted = counted
+came_failed held held' (Some x) None k k' came e same long counted = same
+came_failed held held' (Some x) (Some y) k k' came e same long counted =
+    omega (arith, ap length same, length-append held x, length-append held' y, long)
 
 pub left_less : (l0 l1 l2 : Option (List ℕ)) (held : List ℕ) → StaysLeft l0 l1 → SameAhead [] l1 held l2 → StaysLeft l0 l2
 left_less None l1 l2 held h same = tt
@@ -153,40 +179,6 @@ left_less (Some x) None l2 held h same = absurd h
 left_less (Some x) (Some y) None held h same = same
 left_less (Some x) (Some y) (Some z) held h same =
     (h.0 ++ held, h.1 ∙ ap (λ (t : List ℕ). h.0 ++ t) (sym same) ∙ sym (append_assoc h.0 held z))
-
--- no byte came
-pub came_same : (l0 l1 l2 : Option (List ℕ)) (held : List ℕ) (came0 came : ℕ) → CameOn l0 l1 came0 came → SameAhead [] l1 held l2 → length held ≡ 0 → CameOn l0 l2 came0 came
-came_same None l1 l2 held came0 came h same is = tt
-came_same (Some x) None l2 held came0 came h same is = absurd h
-came_same (Some x) (Some y) None held came0 came h same is = same
-came_same (Some x) (Some y) (Some z) held came0 came h same is = omega (arith, h, is, ap length same, length-append held z)
-
-pub counts_on : (l0 l1 l2 : Option (List ℕ)) (r0 r1 r2 came0 came n : ℕ) → CountGoesOn l0 l1 r0 r1 came0 came → CountChanges l1 l2 r1 r2 (Ok n) → CountGoesOn l0 l2 r0 r2 came0 (came + n)
-counts_on (Some x) l1 l2 r0 r1 r2 came0 came n h k = tt
-counts_on None (Some x) l2 r0 r1 r2 came0 came n h k = absurd h
-counts_on None None (Some x) r0 r1 r2 came0 came n h k = k
-counts_on None None None r0 r1 r2 came0 came n h k =
-    let a : (r2 + came0) % 2 ^ 128 ≡ (r1 + n + came0) % 2 ^ 128 = ap (λ (x : ℕ). (x + came0) % 2 ^ 128) k ∙ mod-add-mod (r1 + n) (2 ^ 128) came0 in
-    let b : r1 + n + came0 ≡ (r1 + came0) + n = omega arith in
-    let c : ((r1 + came0) + n) % 2 ^ 128 ≡ ((r0 + came) + n) % 2 ^ 128 = sym (mod-add-mod (r1 + came0) (2 ^ 128) n) ∙ ap (λ (x : ℕ). (x + n) % 2 ^ 128) h ∙ mod-add-mod (r0 + came) (2 ^ 128) n in
-    let d : (r0 + came) + n ≡ r0 + (came + n) = omega arith in
-    a ∙ ap (λ (x : ℕ). x % 2 ^ 128) b ∙ c ∙ ap (λ (x : ℕ). x % 2 ^ 128) d
-
-pub counts_same : (l0 l1 l2 : Option (List ℕ)) (r0 r1 r2 came0 came : ℕ) (e : DeviceFault) → CountGoesOn l0 l1 r0 r1 came0 came → CountChanges l1 l2 r1 r2 (Err e) → CountGoesOn l0 l2 r0 r2 came0 came
-counts_same (Some x) l1 l2 r0 r1 r2 came0 came e h k = tt
-counts_same None (Some x) l2 r0 r1 r2 came0 came e h k = absurd h
-counts_same None None (Some x) r0 r1 r2 came0 came e h k = k
-counts_same None None None r0 r1 r2 came0 came e h k = ap (λ (x : ℕ). (x + came0) % 2 ^ 128) k ∙ h
-
-pub counts_none : (l : Option (List ℕ)) (r came : ℕ) → CountGoesOn l l r r came came
-counts_none (Some x) r came = tt
-counts_none None r came = refl
-
-pub counts_twice : (l0 l1 l2 : Option (List ℕ)) (r0 r1 r2 came0 came1 came2 : ℕ) → CountGoesOn l0 l1 r0 r1 came0 came1 → CountGoesOn l1 l2 r1 r2 came1 came2 → CountGoesOn l0 l2 r0 r2 came0 came2
-counts_twice (Some x) l1 l2 r0 r1 r2 came0 came1 came2 h k = tt
-counts_twice None (Some x) l2 r0 r1 r2 came0 came1 came2 h k = absurd h
-counts_twice None None (Some x) r0 r1 r2 came0 came1 came2 h k = k
-counts_twice None None None r0 r1 r2 came0 came1 came2 h k = omega (arith, h, k)
 
 -- ---- blocks and the frames that they begin
 

@@ -3,13 +3,11 @@
 use Rattle.std.proofs.Common.{◌≡◌, ℕ, ◌+◌, List, [], ◌++◌, length, take, drop, Option, Some, None, Ok, refl, sym, ap, ◌∙◌, append_assoc, arith}
 use Rattle.std.specs.Io.KnownBytes.{Consumes}
 use Rattle.std.proofs.lemmas.List.{length-append, take-append-drop}
-use Rattle.ssim_records.specs.clauses.Blocks.{CameOn, SameAhead}
+use Rattle.ssim_records.specs.clauses.Blocks.{SameAhead}
 use Rattle.ssim_records.specs.clauses.Device.{CountsBytes}
 use Rattle.ssim_records.specs.Device.{Reader}
-use Rattle.ssim_records.specs.clauses.InputBuffer.{Gives, Input, Stops, Uses, ahead}
-use Rattle.ssim_records.specs.declared.input_buffer.InputFault.{InputFault}
-use Rattle.ssim_records.specs.declared.input_buffer.InputFault.TheVariants.{ReadFault, ReaderNeverEnds}
-use Rattle.ssim_records.proofs.Framing.{came_none, counts_none, counts_on, counts_twice}
+use Rattle.ssim_records.specs.clauses.InputBuffer.{Gives, Input, Uses, ahead}
+use Rattle.ssim_records.proofs.Framing.{came_fetched, came_none, came_twice}
 
 -- ---- what is used
 
@@ -34,17 +32,6 @@ uses_then one two a b c l0 l1 l2 h k = record {
   counted = omega (arith, h.counted, k.counted, length-append one two);
 }
 
-held_next : (held held' : List ℕ) (limit came came' : ℕ) (l0 l1 : Option (List ℕ)) → SameAhead held l0 held' l1
-    → Consumes (ahead (record { limit = limit; came = came; held = held }) l0) (ahead (record { limit = limit; came = came'; held = held' }) l1) []
-held_next held held' limit came came' None l1 h = tt
-held_next held held' limit came came' (Some x) None h = absurd h
-held_next held held' limit came came' (Some x) (Some y) h = sym h
-
--- fetched bytes are held
-pub uses_fetched : (held held' : List ℕ) (limit came n : ℕ) (l0 l1 : Option (List ℕ)) → SameAhead held l0 held' l1 → length held' ≡ length held + n
-    → Uses [] (record { limit = limit; came = came; held = held }) l0 (record { limit = limit; came = came + n; held = held' }) l1
-uses_fetched held held' limit came n l0 l1 h long = record { next = held_next held held' limit came (came + n) l0 l1 h; counted = omega (arith, long) }
-
 skipped_next : (b : Input) (n : ℕ) (left : Option (List ℕ)) → Consumes (ahead b left) (ahead (record { limit = b.limit; came = b.came; held = drop n b.held }) left) (take n b.held)
 skipped_next b n None = tt
 skipped_next b n (Some x) = ap (λ bs. bs ++ x) (sym (take-append-drop n b.held)) ∙ append_assoc (take n b.held) (drop n b.held) x
@@ -58,45 +45,24 @@ uses_skipped b n left = record {
 
 -- ---- what the reader gives
 
-came_then : (l0 l1 l2 : Option (List ℕ)) (a b c : ℕ) → CameOn l0 l1 a b → CameOn l1 l2 b c → CameOn l0 l2 a c
-came_then None l1 l2 a b c h k = tt
-came_then (Some x) None l2 a b c h k = absurd h
-came_then (Some x) (Some y) None a b c h k = k
-came_then (Some x) (Some y) (Some z) a b c h k = k ∙ h
-
 pub gives_none : (r : Reader) (came : ℕ) → Gives r r came came
 gives_none r came = record {
-  total = came_none r.left came;
-  counts = counts_none r.left r.came came;
+  bytes = came_none r.left r.came came;
   no_failure = refl;
 }
 
 pub gives_then : (r0 r1 r2 : Reader) (a b c : ℕ)
     → Gives r0 r1 a b → Gives r1 r2 b c → Gives r0 r2 a c
 gives_then r0 r1 r2 a b c h k = record {
-  total = came_then r0.left r1.left r2.left a b c h.total k.total;
-  counts = counts_twice r0.left r1.left r2.left r0.came r1.came r2.came a b c h.counts k.counts;
+  bytes = came_twice r0.left r1.left r2.left r0.came r1.came r2.came a b c h.bytes k.bytes;
   no_failure = k.no_failure ∙ h.no_failure;
 }
-
--- a fault after what the reader gave
-pub stops_then : (limit : ℕ) (r0 r1 r2 : Reader) (a b : ℕ) (e : InputFault)
-    → Gives r0 r1 a b → Stops limit r1 r2 b e → Stops limit r0 r2 a e
-stops_then limit r0 r1 r2 a b ReadFault h k = rw (← h.no_failure) k
-stops_then limit r0 r1 r2 a b ReaderNeverEnds h k = gives_then r0 r1 r2 a b (limit + 1) h k
-
-came_fetched : (held held' : List ℕ) (came n : ℕ) (l0 l1 : Option (List ℕ)) → SameAhead held l0 held' l1 → length held' ≡ length held + n → CameOn l0 l1 came (came + n)
-came_fetched held held' came n None l1 h long = tt
-came_fetched held held' came n (Some x) None h long = h
-came_fetched held held' came n (Some x) (Some y) h long = omega (arith, ap length h, length-append held x, length-append held' y, long)
 
 -- fetched bytes came
 pub gives_fetched : (held held' : List ℕ) (came n : ℕ) (r0 r1 : Reader)
     → SameAhead held r0.left held' r1.left → length held' ≡ length held + n
     → CountsBytes r0 r1 (Ok n) → r1.failures ≡ r0.failures → Gives r0 r1 came (came + n)
 gives_fetched held held' came n r0 r1 h long counted none = record {
-  total = came_fetched held held' came n r0.left r1.left h long;
-  counts = counts_on r0.left r0.left r1.left r0.came r0.came r1.came came came n
-      (counts_none r0.left r0.came came) counted;
+  bytes = came_fetched held held' r0.left r1.left r0.came r1.came came n h long counted;
   no_failure = none;
 }

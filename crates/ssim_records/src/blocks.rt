@@ -1,13 +1,13 @@
 //! The blocks of a stream of bytes, one after another.
 
-ghost use Rattle.std.specs.Prelude.{◌≡◌, ◌<◌, ◌≤◌, ◌+◌, ◌*◌, [], OnOk, length, nat_lt, Ok, Err, true, false};
+ghost use Rattle.std.specs.Prelude.{◌≡◌, ◌<◌, ◌≤◌, ◌+◌, ◌*◌, OnOk, length, nat_lt, Ok, Err, true, false};
 ghost use Rattle.std.specs.Io.KnownBytes.{IsAtEnd};
 ghost use Rattle.ssim_records.specs.declared.blocks.BlockStop.TheVariants.{ReaderNeverEnds};
 ghost use Rattle.ssim_records.specs.Frames.{is_fill};
-ghost use Rattle.ssim_records.specs.clauses.Blocks.{CameOn, CountsOn, Fetches, StaysLeft};
+ghost use Rattle.ssim_records.specs.clauses.Blocks.{BytesCame, Fetches, StaysLeft};
 ghost use Rattle.ssim_records.specs.internal.Blocks.{behind_front, with_front, FailsAtRest};
 ghost use Rattle.ssim_records.specs.internal.Blocks.{GivesBlock, GivesOther, FailsOnce, LeavesFew};
-ghost use Rattle.ssim_records.specs.internal.Blocks.{block_count, refusal_of};
+ghost use Rattle.ssim_records.specs.internal.Blocks.{block_count, refusal_of, with_block};
 
 use crate::device::Source;
 use crate::fault::RecordFault;
@@ -70,7 +70,7 @@ fn next_block<R: Source>(
     ensures few_left { LeavesFew window.new (with_front window.new result) }
     ensures fault { FailsOnce (R.state reader.old).failures (R.state reader.new).failures
         (with_front window.new result) }
-    ensures count { CountsOn (R.state reader.old) (R.state reader.new) came.old came.new }
+    ensures bytes { BytesCame (R.state reader.old) (R.state reader.new) came.old came.new }
 {
     loop {
         window.trim(after_block);
@@ -108,7 +108,8 @@ fn is_fill(block: &[u8; 200]) -> bool
 }
 
 /// Brings the next block that is not fill to the beginning of the window, of all that the window
-/// holds and the reader has left. Says whether there is one. Each block is counted.
+/// holds and the reader has left. Says whether there is one. The blocks of fill before it are
+/// counted.
 pub fn next_other<R: Source>(
     window: &mut Window,
     came: &mut u128,
@@ -119,31 +120,32 @@ pub fn next_other<R: Source>(
     requires came { came.old ≤ limit + 1 }
     requires counted { 200 * number.old + length window.old ≤ came.old }
     ensures came { came.new ≤ limit + 1 }
-    ensures counted { 200 * number.new + length (behind_front result window.new) ≤ came.new }
-    ensures more { result ≡ Ok true → number.old < number.new }
+    ensures counted { 200 * number.new + length window.new ≤ came.new }
+    ensures more { number.old ≤ number.new }
     ensures long { result ≡ Ok true → 200 ≤ length window.new }
     ensures block { GivesOther limit number.old came.old window.old (R.state reader.old).left
-        number.new came.new (behind_front result window.new) (R.state reader.new).left
-        (with_front window.new result) }
+        (with_block result number.new) came.new (behind_front result window.new)
+        (R.state reader.new).left (with_front window.new result) }
     ensures never_ends { result ≡ Err ReaderNeverEnds
         → (limit < came.new) × (length window.new ≤ 200) }
     ensures fetched { Fetches (nat_lt 0 number.old) number.old window.old (R.state reader.old).left
-        number.new (behind_front result window.new) (R.state reader.new).left }
+        (with_block result number.new) (behind_front result window.new)
+        (R.state reader.new).left }
     ensures few_left { LeavesFew window.new (with_front window.new result) }
     ensures fault { FailsOnce (R.state reader.old).failures (R.state reader.new).failures
         (with_front window.new result) }
-    ensures count { CountsOn (R.state reader.old) (R.state reader.new) came.old came.new }
+    ensures bytes { BytesCame (R.state reader.old) (R.state reader.new) came.old came.new }
 {
     loop {
         let more = next_block(window, came, limit, *number > 0, reader)?;
         if !more {
             return Ok(false);
         }
-        *number += 1;
         if !is_fill(window.front()) {
             return Ok(true);
         }
         window.skip(200);
+        *number += 1;
     }
 }
 
@@ -162,8 +164,7 @@ pub fn skip_rest<R: Source>(
     ensures fault { FailsAtRest limit came.new (R.state reader.old).failures
         (R.state reader.new).failures result }
     ensures left { StaysLeft (R.state reader.old).left (R.state reader.new).left }
-    ensures total { CameOn (R.state reader.old).left (R.state reader.new).left came.old came.new }
-    ensures count { CountsOn (R.state reader.old) (R.state reader.new) came.old came.new }
+    ensures bytes { BytesCame (R.state reader.old) (R.state reader.new) came.old came.new }
 {
     loop {
         window.clear();

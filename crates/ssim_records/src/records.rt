@@ -1,13 +1,11 @@
 //! The records of a stream, one after another.
 
-ghost use Rattle.std.specs.Prelude.{◌≡◌, ◌≤◌, ◌<◌, ◌+◌, ◌*◌, [], IfNone, IfSome, IfErr, IfOk, OnOk};
+ghost use Rattle.std.specs.Prelude.{◌≡◌, ◌≤◌, ◌+◌, ◌*◌, [], IfNone, IfSome, IfOk, None, OnOk, Ok, length, true};
 ghost use Rattle.std.specs.Io.KnownBytes.{IsAtEnd};
-ghost use Rattle.ssim_records.specs.clauses.Blocks.{CameOn, CountsOn, StaysLeft};
-ghost use Rattle.ssim_records.specs.clauses.Reading.{Counts, FailsAs, FetchesNext, GivesNext};
-ghost use Rattle.ssim_records.specs.clauses.Reading.{HasNumber, HoldsFew, NeverEnds, RestFails};
-ghost use Rattle.ssim_records.specs.clauses.Reading.{given, last_answer, ending_of};
-ghost use Rattle.ssim_records.specs.clauses.Reading.{CountsBlock, GivesNextBlock, IsNoBlockFault};
-ghost use Rattle.ssim_records.specs.clauses.Reading.{block_ending, last_block, without_block};
+ghost use Rattle.ssim_records.specs.clauses.Blocks.{BytesCame, StaysLeft};
+ghost use Rattle.ssim_records.specs.clauses.Reading.{ReadsBlock, ReadsRecord, RestFails};
+ghost use Rattle.ssim_records.specs.clauses.Reading.{ending_of, given};
+ghost use Rattle.ssim_records.specs.internal.Blocks.{after_front, front_of};
 
 use crate::blocks::{next_other, skip_rest};
 use crate::device::Source;
@@ -85,27 +83,25 @@ impl Records {
         self.number
     }
 
-    // Returns what `next_into` returns before the end.
-    fn answer<R: Source>(
-        &mut self,
-        reader: &mut R,
-        into: &mut Option<Record>,
-    ) -> Result<u64, RecordFault>
+    // Brings the next block that is not fill to the beginning of the window, and says whether there
+    // is one. It is not counted yet. After an end nothing happens.
+    fn advance<R: Source>(&mut self, reader: &mut R) -> Result<bool, RecordFault>
+        ensures again { IfSome self.old.ended (λ _. (self.new ≡ self.old)
+            × (reader.new ≡ reader.old)) }
+        ensures ended { self.new.ended ≡ ending_of (front_of self.new result) }
         ensures limit { self.new.limit ≡ self.old.limit }
-        ensures record { GivesNext self.old (R.state reader.old).left self.new
-            (R.state reader.new).left (given into.new result) }
-        ensures number { HasNumber self.new.number (given into.new result) }
-        ensures counts { Counts self.old self.new (given into.new result) }
-        ensures never_ends { NeverEnds self.new (given into.new result) }
-        ensures fetched { FetchesNext self.old (R.state reader.old).left self.new
-            (R.state reader.new).left }
-        ensures few_left { HoldsFew self.new.held (given into.new result) }
-        ensures fault { FailsAs (R.state reader.old).failures (R.state reader.new).failures
-            (given into.new result) }
-        ensures count { CountsOn (R.state reader.old) (R.state reader.new) self.old.came
-            self.new.came }
-        ensures returned { IfOk result (λ number. number ≡ self.new.number) }
+        ensures within { self.new.came ≤ self.new.limit + 1 }
+        ensures found { result ≡ Ok true
+            → (self.old.ended ≡ None) × (200 ≤ length self.new.held) }
+        ensures reads { IfNone self.old.ended
+            (ReadsBlock self.old (R.state reader.old) (after_front result self.new)
+            (R.state reader.new) (front_of self.new result)) }
     {
+        match self.ended {
+            Some(Ending::End) => return Ok(false),
+            Some(Ending::Refused(fault)) => return Err(fault),
+            None => {}
+        }
         match next_other(
             &mut self.window,
             &mut self.came,
@@ -113,21 +109,16 @@ impl Records {
             self.limit,
             reader,
         ) {
+            Ok(true) => Ok(true),
             Ok(false) => {
-                *into = None;
-                Ok(self.number)
+                self.ended = Some(Ending::End);
+                Ok(false)
             }
-            Ok(true) => {
-                let read = self
-                    .records
-                    .read_into(self.window.front(), self.number, into);
-                self.window.skip(200);
-                match read {
-                    Ok(()) => Ok(self.number),
-                    Err(fault) => Err(fault),
-                }
+            Err(stop) => {
+                let fault = stop.refusal_of(self.number + 1);
+                self.ended = Some(Ending::Refused(fault));
+                Err(fault)
             }
-            Err(stop) => Err(stop.refusal_of(self.number + 1)),
         }
     }
 
@@ -143,131 +134,60 @@ impl Records {
         reader: &mut R,
         into: &mut Option<Record>,
     ) -> Result<u64, RecordFault>
-        // After an end the same result is returned, and nothing else happens.
-        ensures again { IfSome self.old.ended (λ e. (given into.new result ≡ last_answer e)
-            × (self.new ≡ self.old) × (reader.new ≡ reader.old)) }
+        // After an end nothing happens, so the result means the same end.
+        ensures again { IfSome self.old.ended (λ _. (self.new ≡ self.old)
+            × (reader.new ≡ reader.old)) }
         ensures ended { self.new.ended ≡ ending_of (given into.new result) }
-        ensures limit { self.new.limit ≡ self.old.limit }
 
         // At most one byte more than the limit is ever fetched.
+        ensures limit { self.new.limit ≡ self.old.limit }
         ensures within { self.new.came ≤ self.new.limit + 1 }
 
-        // If the contract knows the reader's bytes, the result is the next record of the bytes
-        // ahead.
-        ensures record { IfNone self.old.ended
-            (GivesNext self.old (R.state reader.old).left self.new (R.state reader.new).left
+        // Before an end the next block is fetched, and the result is what it is read as.
+        ensures reads { IfNone self.old.ended
+            (ReadsRecord self.old (R.state reader.old) self.new (R.state reader.new)
             (given into.new result)) }
-        ensures number { IfNone self.old.ended (HasNumber self.new.number (given into.new result)) }
-        ensures counts { IfNone self.old.ended (Counts self.old self.new (given into.new result)) }
-
-        // The counted records, and then the held bytes, are the bytes that came. At 13 the held
-        // bytes are too few for a record.
-        ensures fetched { IfNone self.old.ended
-            (FetchesNext self.old (R.state reader.old).left self.new (R.state reader.new).left) }
-        ensures few_left { IfNone self.old.ended (HoldsFew self.new.held (given into.new result)) }
-
-        // 13 is returned if the reader failed, 14 after the limit. The bytes that came are those of
-        // the reader.
-        ensures fault { IfNone self.old.ended
-            (FailsAs (R.state reader.old).failures (R.state reader.new).failures
-            (given into.new result)) }
-        ensures never_ends { IfNone self.old.ended (NeverEnds self.new (given into.new result)) }
-        ensures count { IfNone self.old.ended
-            (CountsOn (R.state reader.old) (R.state reader.new) self.old.came self.new.came) }
         ensures returned { IfOk result (λ number. number ≡ self.new.number) }
     {
-        match self.ended {
-            Some(Ending::End) => {
-                *into = None;
-                return Ok(self.number);
-            }
-            Some(Ending::Refused(fault)) => return Err(fault),
-            None => {}
+        if !self.advance(reader)? {
+            *into = None;
+            return Ok(self.number);
         }
-        let answer = self.answer(reader, into);
-        self.ended = match &answer {
-            Ok(_) => match into {
-                Some(_) => None,
-                None => Some(Ending::End),
-            },
-            Err(fault) => Some(Ending::Refused(*fault)),
-        };
-        answer
+        self.number += 1;
+        let read = self
+            .records
+            .read_into(self.window.front(), self.number, into);
+        self.window.skip(200);
+        match read {
+            Ok(()) => Ok(self.number),
+            Err(fault) => {
+                self.ended = Some(Ending::Refused(fault));
+                Err(fault)
+            }
+        }
     }
 
     /// The next record that is not fill, and its number. After the end, and after a refusal, each
     /// call returns the same.
     pub fn next<R: Source>(&mut self, reader: &mut R) -> Result<Option<(u64, Record)>, RecordFault>
-        // After an end the same result is returned, and nothing else happens.
-        ensures again { IfSome self.old.ended (λ e. (result ≡ last_answer e) × (self.new ≡ self.old)
+        // After an end nothing happens, so the result means the same end.
+        ensures again { IfSome self.old.ended (λ _. (self.new ≡ self.old)
             × (reader.new ≡ reader.old)) }
         ensures ended { self.new.ended ≡ ending_of result }
-        ensures limit { self.new.limit ≡ self.old.limit }
 
         // At most one byte more than the limit is ever fetched.
+        ensures limit { self.new.limit ≡ self.old.limit }
         ensures within { self.new.came ≤ self.new.limit + 1 }
 
-        // If the contract knows the reader's bytes, the result is the next record of the bytes
-        // ahead.
-        ensures record { IfNone self.old.ended
-            (GivesNext self.old (R.state reader.old).left self.new (R.state reader.new).left
-            result) }
-        ensures number { IfNone self.old.ended (HasNumber self.new.number result) }
-        ensures counts { IfNone self.old.ended (Counts self.old self.new result) }
-
-        // The counted records, and then the held bytes, are the bytes that came. At 13 the held
-        // bytes are too few for a record.
-        ensures fetched { IfNone self.old.ended
-            (FetchesNext self.old (R.state reader.old).left self.new (R.state reader.new).left) }
-        ensures few_left { IfNone self.old.ended (HoldsFew self.new.held result) }
-
-        // 13 is returned if the reader failed, 14 after the limit. The bytes that came are those of
-        // the reader.
-        ensures fault { IfNone self.old.ended
-            (FailsAs (R.state reader.old).failures (R.state reader.new).failures result) }
-        ensures never_ends { IfNone self.old.ended (NeverEnds self.new result) }
-        ensures count { IfNone self.old.ended
-            (CountsOn (R.state reader.old) (R.state reader.new) self.old.came self.new.came) }
+        // Before an end the next block is fetched, and the result is what it is read as.
+        ensures reads { IfNone self.old.ended
+            (ReadsRecord self.old (R.state reader.old) self.new (R.state reader.new) result) }
     {
         let mut record = None;
         let number = self.next_into(reader, &mut record)?;
         match record {
             Some(record) => Ok(Some((number, record))),
             None => Ok(None),
-        }
-    }
-
-    // Returns what `next_block` returns before the end.
-    fn block<R: Source>(&mut self, reader: &mut R) -> Result<Option<(u64, [u8; 200])>, RecordFault>
-        ensures limit { self.new.limit ≡ self.old.limit }
-        ensures record { GivesNextBlock self.old (R.state reader.old).left self.new
-            (R.state reader.new).left result }
-        ensures counts { CountsBlock self.old self.new result }
-        ensures number { HasNumber self.new.number (without_block result) }
-        ensures fetched { FetchesNext self.old (R.state reader.old).left self.new
-            (R.state reader.new).left }
-        ensures few_left { HoldsFew self.new.held (without_block result) }
-        ensures never_ends { NeverEnds self.new (without_block result) }
-        ensures fault { FailsAs (R.state reader.old).failures (R.state reader.new).failures
-            (without_block result) }
-        ensures count { CountsOn (R.state reader.old) (R.state reader.new) self.old.came
-            self.new.came }
-        ensures stops { IfErr result IsNoBlockFault }
-    {
-        match next_other(
-            &mut self.window,
-            &mut self.came,
-            &mut self.number,
-            self.limit,
-            reader,
-        ) {
-            Ok(false) => Ok(None),
-            Ok(true) => {
-                let block = *self.window.front();
-                self.window.skip(200);
-                Ok(Some((self.number, block)))
-            }
-            Err(stop) => Err(stop.refusal_of(self.number + 1)),
         }
     }
 
@@ -278,51 +198,26 @@ impl Records {
         &mut self,
         reader: &mut R,
     ) -> Result<Option<(u64, [u8; 200])>, RecordFault>
-        // After an end the same result is returned, and nothing else happens.
-        ensures again { IfSome self.old.ended (λ e. (result ≡ last_block e) × (self.new ≡ self.old)
+        // After an end nothing happens, so the result means the same end.
+        ensures again { IfSome self.old.ended (λ _. (self.new ≡ self.old)
             × (reader.new ≡ reader.old)) }
-        ensures ended { self.new.ended ≡ block_ending result }
-        ensures limit { self.new.limit ≡ self.old.limit }
+        ensures ended { self.new.ended ≡ ending_of result }
 
         // At most one byte more than the limit is ever fetched.
+        ensures limit { self.new.limit ≡ self.old.limit }
         ensures within { self.new.came ≤ self.new.limit + 1 }
 
-        // If the contract knows the reader's bytes, the result is the next block of the bytes
-        // ahead.
-        ensures record { IfNone self.old.ended
-            (GivesNextBlock self.old (R.state reader.old).left self.new (R.state reader.new).left
-            result) }
-        ensures counts { IfNone self.old.ended (CountsBlock self.old self.new result) }
-        ensures number { IfNone self.old.ended (HasNumber self.new.number (without_block result)) }
-
-        // The counted blocks, and then the held bytes, are the bytes that came. At 13 the held
-        // bytes are too few for a block.
-        ensures fetched { IfNone self.old.ended
-            (FetchesNext self.old (R.state reader.old).left self.new (R.state reader.new).left) }
-        ensures few_left { IfNone self.old.ended (HoldsFew self.new.held (without_block result)) }
-
-        // 13 is returned if the reader failed, 14 after the limit, and no fault of a block. The
-        // bytes that came are those of the reader.
-        ensures stops { IfNone self.old.ended (IfErr result IsNoBlockFault) }
-        ensures fault { IfNone self.old.ended
-            (FailsAs (R.state reader.old).failures (R.state reader.new).failures
-            (without_block result)) }
-        ensures never_ends { IfNone self.old.ended (NeverEnds self.new (without_block result)) }
-        ensures count { IfNone self.old.ended
-            (CountsOn (R.state reader.old) (R.state reader.new) self.old.came self.new.came) }
+        // Before an end the next block is fetched.
+        ensures reads { IfNone self.old.ended
+            (ReadsBlock self.old (R.state reader.old) self.new (R.state reader.new) result) }
     {
-        match self.ended {
-            Some(Ending::End) => return Ok(None),
-            Some(Ending::Refused(fault)) => return Err(fault),
-            None => {}
+        if !self.advance(reader)? {
+            return Ok(None);
         }
-        let answer = self.block(reader);
-        self.ended = match &answer {
-            Ok(Some(_)) => None,
-            Ok(None) => Some(Ending::End),
-            Err(fault) => Some(Ending::Refused(*fault)),
-        };
-        answer
+        let block = *self.window.front();
+        self.window.skip(200);
+        self.number += 1;
+        Ok(Some((self.number, block)))
     }
 
     /// Fetches the bytes that are left, and uses neither these nor those that are held. 13 is
@@ -337,9 +232,7 @@ impl Records {
 
         // The bytes that came are those of the reader.
         ensures left { StaysLeft (R.state reader.old).left (R.state reader.new).left }
-        ensures total { CameOn (R.state reader.old).left (R.state reader.new).left self.old.came
-            self.new.came }
-        ensures count { CountsOn (R.state reader.old) (R.state reader.new) self.old.came
+        ensures came { BytesCame (R.state reader.old) (R.state reader.new) self.old.came
             self.new.came }
     {
         match skip_rest(&mut self.window, &mut self.came, self.limit, reader) {

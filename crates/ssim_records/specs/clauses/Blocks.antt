@@ -38,19 +38,13 @@ StaysLeft None left' = Unit {0}
 StaysLeft (Some left) None = ⊥
 StaysLeft (Some left) (Some left') = (fetched : List ℕ) × (left ≡ fetched ++ left')
 
--- The bytes that came are those that the reader no longer has left. Nothing is said if the reader
--- does not report its bytes.
-abbrev pub CameOn : Option (List ℕ) → Option (List ℕ) → ℕ → ℕ → Type 0
-CameOn None left' came came' = Unit {0}
-CameOn (Some left) None came came' = ⊥
-CameOn (Some left) (Some left') came came' = came' + length left' ≡ came + length left
+-- The number of the bytes that came goes from one to the other: by those that the reader no longer
+-- has left or, if it does not report its bytes, by those that it counted.
+abbrev pub CameFrom : Option (List ℕ) → Option (List ℕ) → ℕ → ℕ → ℕ → ℕ → Type 0
+CameFrom None None old new came came' = (new + came) % 2 ^ 128 ≡ (old + came') % 2 ^ 128
+CameFrom (Some left) (Some left') old new came came' = came' + length left' ≡ came + length left
+CameFrom _ _ old new came came' = ⊥
 
--- If the bytes left are not known, the count of a source went on by the bytes that came.
-abbrev pub CountGoesOn : Option (List ℕ) → Option (List ℕ) → ℕ → ℕ → ℕ → ℕ → Type 0
-CountGoesOn (Some left) left' old new came came' = Unit {0}
-CountGoesOn None (Some left) old new came came' = ⊥
-CountGoesOn None None old new came came' = (new + came) % 2 ^ 128 ≡ (old + came') % 2 ^ 128
-
--- A source that does not report its bytes has counted the bytes that came.
-abbrev pub CountsOn : Reader → Reader → ℕ → ℕ → Type 0
-CountsOn old new came came' = CountGoesOn old.left new.left old.came new.came came came'
+-- These bytes came from a reader.
+abbrev pub BytesCame : Reader → Reader → ℕ → ℕ → Type 0
+BytesCame old new came came' = CameFrom old.left new.left old.came new.came came came'

@@ -1,7 +1,7 @@
 -- Bytes that came from a source and are not used yet.
 use Rattle.std.specs.Prelude.{ℕ, ◌≡◌, ◌+◌, ◌%◌, ◌^◌, List, ◌++◌, length, Option, Some, None}
 use Rattle.std.specs.Io.KnownBytes.{Consumes}
-use Rattle.ssim_records.specs.clauses.Blocks.{CameOn, CountsOn}
+use Rattle.ssim_records.specs.clauses.Blocks.{BytesCame}
 use Rattle.ssim_records.specs.Device.{Reader}
 use Rattle.ssim_records.specs.declared.input_buffer.InputFault.{InputFault}
 use Rattle.ssim_records.specs.declared.input_buffer.InputFault.TheVariants.{ReadFault, ReaderNeverEnds}
@@ -26,8 +26,7 @@ pub record Uses (used : List ℕ) (old : Input) (left : Option (List ℕ)) (new 
 
 -- The reader did not fail, and the number of bytes that came went from one to the other.
 pub record Gives (old new : Reader) (came came' : ℕ) : Type 0 where
-  pub total : CameOn old.left new.left came came'
-  pub counts : CountsOn old new came came'
+  pub bytes : BytesCame old new came came'
   pub no_failure : new.failures ≡ old.failures
 
 -- The reader failed, which is counted, and the count wraps; or one byte more came than the limit.

@@ -1,5 +1,5 @@
 -- Reading the records of a stream: what is ahead, and what each call returns.
-use Rattle.std.specs.Prelude.{ℕ, ◌≡◌, ◌+◌, ◌*◌, ◌%◌, ◌^◌, ◌<◌, ◌≤◌, List, [], ◌∷◌, ◌++◌, length, nat_lt, ⊤, Option, Some, None, Result, Ok, Err}
+use Rattle.std.specs.Prelude.{ℕ, ◌≡◌, ◌+◌, ◌*◌, ◌%◌, ◌^◌, ◌<◌, ◌≤◌, List, [], ◌∷◌, ◌++◌, length, nat_lt, ⊤, Option, Some, None, IfErr, Result, Ok, Err}
 use Rattle.ssim_records.specs.Device.{Reader}
 use Rattle.ssim_records.specs.declared.fault.RecordFault.{RecordFault}
 use Rattle.ssim_records.specs.declared.fault.RecordFault.TheVariants.{Short, BadType, BadColumn, ReadFault, ReaderNeverEnds}
@@ -7,7 +7,7 @@ use Rattle.ssim_records.specs.declared.record.Record.{Record}
 use Rattle.ssim_records.specs.declared.records.Ending.{Ending}
 use Rattle.ssim_records.specs.declared.records.Ending.TheVariants.{End, Refused}
 use Rattle.ssim_records.specs.Frames.{Frames, others}
-use Rattle.ssim_records.specs.clauses.Blocks.{Fetches, beyond}
+use Rattle.ssim_records.specs.clauses.Blocks.{BytesCame, Fetches, beyond}
 use Rattle.ssim_records.specs.Record.{Spells, fault_of}
 
 -- The state of reading: the most bytes that may come, how many came, how many records were counted,
@@ -25,19 +25,15 @@ abbrev pub IsAhead : Reading → List ℕ → List (List ℕ) → List ℕ → T
 IsAhead r left blocks rest =
     Frames (beyond r.limit r.came left) (nat_lt 0 r.number) (r.held ++ left) blocks rest
 
--- what a call returns: a record with its number, the end, or a fault
+-- what a call for the next block returns: the block with its number, the end, or a fault
+abbrev pub BlockAnswer : Type 0
+BlockAnswer = Result (Option (ℕ × List ℕ)) RecordFault
+
+-- what a call for the next record returns
 abbrev pub Answer : Type 0
 Answer = Result (Option (ℕ × Record)) RecordFault
 
--- the record that was put in, with a number
-abbrev pub with_number : ℕ → Option Record → Option (ℕ × Record)
-with_number number None = None
-with_number number (Some r) = Some (number, r)
-
--- the result of a call that puts the record into `into` and returns its number
-abbrev pub given : Option Record → Result ℕ RecordFault → Answer
-given into (Ok number) = Ok (with_number number into)
-given into (Err fault) = Err fault
+-- ---- the next block
 
 -- only fill is left, and all blocks are counted
 abbrev pub IsLast : Reading → List (List ℕ) → Reading → Type 0
@@ -49,29 +45,21 @@ IsNext old blocks new block later =
     (others old.number blocks ≡ (new.number, block) ∷ others new.number later)
     × (new.number + length later ≡ old.number + length blocks)
 
--- the next block that is not fill spells no record, for the reason that the fault names
-abbrev pub IsRefused : Reading → List (List ℕ) → Reading → RecordFault → Type 0
-IsRefused old blocks new fault =
-    (block : List ℕ) × (later : List (List ℕ)) × IsNext old blocks new block later
-    × (fault_of new.number block ≡ Some fault)
-
--- The result of reading the next record, if these blocks and this rest are ahead. A record: the
--- next block other than fill spells it, its number is the block's, and the blocks after it satisfy
--- `After`. The end: only fill is left. A fault: the next block spells no record, the bytes end
--- within a record, more bytes came than the limit, or the reader failed after nothing but fill.
+-- The result of reading the next block, if these blocks and this rest are ahead. A block: the next
+-- one other than fill, and the blocks after it satisfy `After`. The end: only fill is left. A fault:
+-- the bytes end within a record, more bytes came than the limit, or the reader failed after nothing
+-- but fill.
 abbrev pub Returns : Reading → List ℕ → List (List ℕ) → List ℕ → Reading → (List (List ℕ) → Type 0)
-    → Answer → Type 0
+    → BlockAnswer → Type 0
 Returns old left blocks rest new After (Ok None) =
     IsLast old blocks new × (rest ≡ []) × (beyond old.limit old.came left ≡ 0)
 Returns old left blocks rest new After (Ok (Some found)) =
-    (block : List ℕ) × (later : List (List ℕ)) × IsNext old blocks new block later
-    × (found.0 ≡ new.number) × Spells found.1 block × After later
+    (later : List (List ℕ)) × IsNext old blocks new found.1 later × After later
 Returns old left blocks rest new After (Err (Short n)) =
     IsLast old blocks new × (0 < length rest) × (length rest < 200)
     × (beyond old.limit old.came left ≡ 0)
-Returns old left blocks rest new After (Err (BadType n)) = IsRefused old blocks new (BadType n)
-Returns old left blocks rest new After (Err (BadColumn n column)) =
-    IsRefused old blocks new (BadColumn n column)
+Returns old left blocks rest new After (Err (BadType n)) = ⊥
+Returns old left blocks rest new After (Err (BadColumn n column)) = ⊥
 Returns old left blocks rest new After (Err (ReadFault n)) =
     (later : List (List ℕ)) × (others old.number blocks ≡ others new.number later)
     × (new.number + length later ≡ old.number + length blocks)
@@ -80,7 +68,7 @@ Returns old left blocks rest new After (Err (ReaderNeverEnds n)) =
 
 -- The result is right for whatever blocks and rest are ahead. Nothing is said if the reader does
 -- not report its bytes.
-abbrev pub GivesNext : Reading → Option (List ℕ) → Reading → Option (List ℕ) → Answer → Type 0
+abbrev pub GivesNext : Reading → Option (List ℕ) → Reading → Option (List ℕ) → BlockAnswer → Type 0
 GivesNext old None new left' result = Unit {0}
 GivesNext old (Some left) new None result = ⊥
 GivesNext old (Some left) new (Some left') result =
@@ -94,35 +82,87 @@ abbrev pub FetchesNext : Reading → Option (List ℕ) → Reading → Option (L
 FetchesNext old left new left' =
     Fetches (nat_lt 0 old.number) old.number old.held left new.number new.held left'
 
--- after a failure of the reader too few bytes are held for a record
-abbrev pub HoldsFew : List ℕ → Answer → Type 0
-HoldsFew held (Err (ReadFault n)) = length held < 200
-HoldsFew held _ = Unit {0}
+-- A block or record has the number of the blocks counted, which is a new one, and its 200 bytes are
+-- within the limit. An invalid record has this number, too. Any other fault has the number after it.
+abbrev pub HasNumber : {A : Type 0} → Reading → Reading → Result (Option (ℕ × A)) RecordFault
+    → Type 0
+HasNumber old new (Ok None) = Unit {0}
+HasNumber old new (Ok (Some found)) =
+    (found.0 ≡ new.number) × (old.number < new.number) × (200 * new.number ≤ new.limit + 1)
+HasNumber old new (Err (Short n)) = n ≡ new.number + 1
+HasNumber old new (Err (BadType n)) = n ≡ new.number
+HasNumber old new (Err (BadColumn n column)) = n ≡ new.number
+HasNumber old new (Err (ReadFault n)) = n ≡ new.number + 1
+HasNumber old new (Err (ReaderNeverEnds n)) = n ≡ new.number + 1
 
--- a returned record is counted, and its 200 bytes are within the limit
-abbrev pub Counts : Reading → Reading → Answer → Type 0
-Counts old new (Ok (Some found)) = (old.number < new.number) × (200 * new.number ≤ new.limit + 1)
-Counts old new _ = Unit {0}
-
--- An invalid record has the number of the records counted. Any other fault has the number after it.
-abbrev pub HasNumber : ℕ → Answer → Type 0
-HasNumber number (Ok None) = Unit {0}
-HasNumber number (Ok (Some found)) = found.0 ≡ number
-HasNumber number (Err (Short n)) = n ≡ number + 1
-HasNumber number (Err (BadType n)) = n ≡ number
-HasNumber number (Err (BadColumn n column)) = n ≡ number
-HasNumber number (Err (ReadFault n)) = n ≡ number + 1
-HasNumber number (Err (ReaderNeverEnds n)) = n ≡ number + 1
+-- If the fault is 13, too few bytes are held for a record. If it is 14, one byte more came than the
+-- limit, and no record within the limit is held.
+abbrev pub HoldsFew : {A : Type 0} → Reading → Result A RecordFault → Type 0
+HoldsFew new (Err (ReadFault n)) = length new.held < 200
+HoldsFew new (Err (ReaderNeverEnds n)) = (new.came ≡ new.limit + 1) × (length new.held < 201)
+HoldsFew new _ = Unit {0}
 
 -- the reader's failures are counted: one more if the result is a read fault, else none
-abbrev pub FailsAs : ℕ → ℕ → Answer → Type 0
+abbrev pub FailsAs : {A : Type 0} → ℕ → ℕ → Result A RecordFault → Type 0
 FailsAs old new (Err (ReadFault n)) = new ≡ (old + 1) % 2 ^ 64
 FailsAs old new _ = new ≡ old
 
--- If the fault is 14, one byte more came than the limit, and no record within the limit is held.
-abbrev pub NeverEnds : Reading → Answer → Type 0
-NeverEnds new (Err (ReaderNeverEnds n)) = (new.came ≡ new.limit + 1) × (length new.held < 201)
-NeverEnds new _ = Unit {0}
+-- the faults are 10, 13 and 14
+abbrev pub IsNoBlockFault : RecordFault → Type 0
+IsNoBlockFault (BadType n) = ⊥
+IsNoBlockFault (BadColumn n column) = ⊥
+IsNoBlockFault _ = Unit {0}
+
+-- What a call for the next block other than fill does before the reading has ended.
+pub record ReadsBlock (old : Reading) (before : Reader) (new : Reading) (after : Reader)
+    (result : BlockAnswer) : Type 0 where
+  -- the result is the next block of the bytes ahead
+  pub next : GivesNext old before.left new after.left result
+  pub number : HasNumber old new result
+  pub stops : IfErr result IsNoBlockFault
+  -- the bytes that were fetched are the counted blocks, and then those held
+  pub fetched : FetchesNext old before.left new after.left
+  pub held : HoldsFew new result
+  pub failure : FailsAs before.failures after.failures result
+  pub came : BytesCame before after old.came new.came
+
+-- ---- the next record
+
+-- The record that a block spells, with the number of the block, or the fault that the block has. If
+-- there is no block, the end or the fault stays the same.
+abbrev pub IsReadAs : BlockAnswer → Answer → Type 0
+IsReadAs (Ok None) result = result ≡ Ok None
+IsReadAs (Ok (Some block)) (Ok None) = ⊥
+IsReadAs (Ok (Some block)) (Ok (Some found)) = (found.0 ≡ block.0) × Spells found.1 block.1
+IsReadAs (Ok (Some block)) (Err fault) = fault_of block.0 block.1 ≡ Some fault
+IsReadAs (Err fault) result = result ≡ Err fault
+
+-- What a call for the next record does before the reading has ended: the next block is read.
+pub record ReadsRecord (old : Reading) (before : Reader) (new : Reading) (after : Reader)
+    (result : Answer) : Type 0 where
+  pub block : BlockAnswer
+  pub reads : ReadsBlock old before new after block
+  pub is_read : IsReadAs block result
+
+-- the record that was put in, with a number
+abbrev pub with_number : ℕ → Option Record → Option (ℕ × Record)
+with_number number None = None
+with_number number (Some r) = Some (number, r)
+
+-- the result of a call that puts the record into `into` and returns its number
+abbrev pub given : Option Record → Result ℕ RecordFault → Answer
+given into (Ok number) = Ok (with_number number into)
+given into (Err fault) = Err fault
+
+-- ---- the end
+
+-- the end that a result means, if it is one
+abbrev pub ending_of : {A : Type 0} → Result (Option A) RecordFault → Option Ending
+ending_of (Ok None) = Some End
+ending_of (Ok (Some found)) = None
+ending_of (Err fault) = Some (Refused fault)
+
+-- ---- the rest
 
 -- The reader's failures are counted while the rest is skipped: one more if the fault is 13, else
 -- none. If the fault is 14, one byte more came than the limit. There is no other fault, and it
@@ -134,74 +174,3 @@ RestFails r old new (Err (ReadFault n)) =
 RestFails r old new (Err (ReaderNeverEnds n)) =
     (n ≡ r.number + 1) × (new.failures ≡ old.failures) × (r.came ≡ r.limit + 1)
 RestFails r old new _ = ⊥
-
--- what each call returns after the end
-abbrev pub last_answer : Ending → Answer
-last_answer End = Ok None
-last_answer (Refused fault) = Err fault
-
--- the end that a result means, if it is one
-abbrev pub ending_of : Answer → Option Ending
-ending_of (Ok None) = Some End
-ending_of (Ok (Some found)) = None
-ending_of (Err fault) = Some (Refused fault)
-
--- ---- the blocks, whether they spell records or not
-
--- what a call for the next block returns: the block with its number, the end, or a fault
-abbrev pub BlockAnswer : Type 0
-BlockAnswer = Result (Option (ℕ × List ℕ)) RecordFault
-
--- The result of reading the next block, if these blocks and this rest are ahead: the next block
--- other than fill, with its number; the blocks after it satisfy `After`. The end and the faults are
--- those of records, but that no block is invalid.
-abbrev pub ReturnsBlock : Reading → List ℕ → List (List ℕ) → List ℕ → Reading
-    → (List (List ℕ) → Type 0) → BlockAnswer → Type 0
-ReturnsBlock old left blocks rest new After (Ok None) =
-    Returns old left blocks rest new After (Ok None)
-ReturnsBlock old left blocks rest new After (Ok (Some found)) =
-    (later : List (List ℕ)) × IsNext old blocks new found.1 later × (found.0 ≡ new.number)
-    × After later
-ReturnsBlock old left blocks rest new After (Err (BadType n)) = ⊥
-ReturnsBlock old left blocks rest new After (Err (BadColumn n column)) = ⊥
-ReturnsBlock old left blocks rest new After (Err fault) =
-    Returns old left blocks rest new After (Err fault)
-
--- The result is right for whatever blocks and rest are ahead. Nothing is said if the reader does
--- not report its bytes.
-abbrev pub GivesNextBlock : Reading → Option (List ℕ) → Reading → Option (List ℕ) → BlockAnswer
-    → Type 0
-GivesNextBlock old None new left' result = Unit {0}
-GivesNextBlock old (Some left) new None result = ⊥
-GivesNextBlock old (Some left) new (Some left') result =
-    (new.came + length left' ≡ old.came + length left)
-    × ((blocks : List (List ℕ)) → (rest : List ℕ) → IsAhead old left blocks rest
-    → ReturnsBlock old left blocks rest new (λ later. IsAhead new left' later rest) result)
-
--- what a call for a block returns, as one for a record would that found none
-abbrev pub without_block : BlockAnswer → Answer
-without_block (Ok found) = Ok None
-without_block (Err fault) = Err fault
-
--- a returned block is counted, and its 200 bytes are within the limit
-abbrev pub CountsBlock : Reading → Reading → BlockAnswer → Type 0
-CountsBlock old new (Ok (Some found)) =
-    (old.number < new.number) × (200 * new.number ≤ new.limit + 1) × (found.0 ≡ new.number)
-CountsBlock old new _ = Unit {0}
-
--- the faults are 10, 13 and 14
-abbrev pub IsNoBlockFault : RecordFault → Type 0
-IsNoBlockFault (BadType n) = ⊥
-IsNoBlockFault (BadColumn n column) = ⊥
-IsNoBlockFault _ = Unit {0}
-
--- what each call for a block returns after the end
-abbrev pub last_block : Ending → BlockAnswer
-last_block End = Ok None
-last_block (Refused fault) = Err fault
-
--- the end that the result of a call for a block means, if it is one
-abbrev pub block_ending : BlockAnswer → Option Ending
-block_ending (Ok None) = Some End
-block_ending (Ok (Some found)) = None
-block_ending (Err fault) = Some (Refused fault)

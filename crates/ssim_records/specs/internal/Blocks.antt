@@ -6,6 +6,7 @@ use Rattle.ssim_records.specs.declared.fault.RecordFault.{RecordFault}
 use Rattle.ssim_records.specs.declared.fault.RecordFault.TheVariants as fault
 use Rattle.ssim_records.specs.Frames.{trim, Frames, others}
 use Rattle.ssim_records.specs.clauses.Blocks.{beyond}
+use Rattle.ssim_records.specs.clauses.Reading.{BlockAnswer, Reading}
 
 -- the refusal of the record of a number, of which no block came
 abbrev pub refusal_of : BlockStop → ℕ → RecordFault
@@ -48,6 +49,11 @@ with_front held (Err stop) = Err stop
 abbrev pub behind_front : Result Bool BlockStop → List ℕ → List ℕ
 behind_front (Ok true) held = drop 200 held
 behind_front _ held = held
+
+-- the number of blocks counted, with the block that the held bytes begin with, if there is one
+abbrev pub with_block : Result Bool BlockStop → ℕ → ℕ
+with_block (Ok true) number = number + 1
+with_block _ number = number
 
 -- the number of blocks in a result
 abbrev pub block_count : Result (Option (List ℕ)) BlockStop → ℕ
@@ -101,3 +107,15 @@ FailsAtRest limit came old new (Ok x) = new ≡ old
 FailsAtRest limit came old new (Err Short) = ⊥
 FailsAtRest limit came old new (Err ReadFault) = new ≡ (old + 1) % 2 ^ 64
 FailsAtRest limit came old new (Err ReaderNeverEnds) = (new ≡ old) × (limit < came)
+
+-- the block that a call brought to the beginning of the held bytes, with the number after those
+-- counted; the end; or a fault
+abbrev pub front_of : Reading → Result Bool RecordFault → BlockAnswer
+front_of r (Ok false) = Ok None
+front_of r (Ok true) = Ok (Some (r.number + 1, take 200 r.held))
+front_of r (Err fault) = Err fault
+
+-- the reading after the block that a call brought to the beginning of the held bytes is counted
+abbrev pub after_front : Result Bool RecordFault → Reading → Reading
+after_front (Ok true) r = record r { number = r.number + 1; held = drop 200 r.held }
+after_front _ r = r

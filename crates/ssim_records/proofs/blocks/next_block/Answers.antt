@@ -1,7 +1,7 @@
 -- Each exit is a case of what is held once nothing more has to be fetched.
 use Rattle.std.proofs.Common.{◌≡◌, ◌+◌, ◌∙◌, length, take, drop, Ok, arith, ap, sym, rules}
 use Rattle.std.proofs.lemmas.List.{take-append-drop, length-drop}
-use Rattle.ssim_records.proofs.Framing.{took, stays_on, counts_on, never_ends, none_taken, none_trimmed, one_taken, faulted, all_held, ends_short}
+use Rattle.ssim_records.proofs.Framing.{took, stays_on, came_failed, came_fetched, came_twice, never_ends, none_taken, none_trimmed, one_taken, faulted, all_held, ends_short}
 use Rattle.ssim_columns.proofs.lemmas.Slices.{front_length}
 use Rattle.ssim_records.proofs.blocks.next_block.Goals as goal
 
@@ -9,7 +9,7 @@ pub loop-limit-preserved : goal.loop-limit-preserved
 loop-limit-preserved g c = record {
   came_fits = omega (arith, c.in-Ok.ensures.ok.0, c.loop-limit.invariant.came_fits);
   stays = stays_on c.args.after_block c.args.came.now c.loop-limit.came c.args.window.now c.loop-limit.window c.trim.new.self c.fetch.new.self _ _ _ c.in-Ok.n c.loop-limit.invariant.stays c.trim.ensures.value c.fetch.ensures.ahead c.in-Ok.ensures.ok.1;
-  counts = counts_on _ _ _ _ _ _ _ _ c.in-Ok.n c.loop-limit.invariant.counts c.in-Ok.ensures.count;
+  bytes = came_twice _ _ _ _ _ _ _ _ _ c.loop-limit.invariant.bytes (came_fetched c.trim.new.self c.fetch.new.self _ _ _ _ c.loop-limit.came c.in-Ok.n c.fetch.ensures.ahead c.in-Ok.ensures.ok.1 c.in-Ok.ensures.count);
   no_failure = c.in-Ok.ensures.failures ∙ c.loop-limit.invariant.no_failure;
   few = omega (arith, c.in-Ok.ensures.ok.1, c.loop-limit.invariant.few, c.trim.ensures.less);
 }
@@ -33,6 +33,10 @@ returns-in-Ok-eq0-clause-block g c =
     let kept : c.fetch.new.self ≡ c.trim.new.self = c.fetch.ensures.none zero in
     let all = all_held c.args.after_block c.args.limit c.args.came.now c.loop-limit.came c.args.window.now c.loop-limit.window c.trim.new.self c.fetch.new.self _ _ _ c.loop-limit.invariant.stays c.trim.ensures.value c.fetch.ensures.ahead (c.fetch.ensures.end zero) kept in
     ends_short c.args.after_block c.args.limit c.args.came.now c.loop-limit.came c.args.window.now c.fetch.new.self _ _ all (omega arith) (omega (arith, ap length kept, c.needed.ensures.inside)) (omega arith)
+
+pub returns-in-Err-clause-bytes : goal.returns-in-Err-clause-bytes
+returns-in-Err-clause-bytes g c =
+    came_twice _ _ _ _ _ _ _ _ _ c.loop-limit.invariant.bytes (came_failed c.trim.new.self c.fetch.new.self _ _ _ _ c.loop-limit.came _ c.fetch.ensures.ahead c.in-Err.ensures.err c.in-Err.ensures.count)
 
 -- ---- what was fetched
 

@@ -1,6 +1,6 @@
 -- What is ahead stays the same while bytes are fetched.
 use Rattle.std.proofs.Common.{◌≡◌, ◌≤◌, ◌+◌, ◌-◌, ℕ, Bool, List, length}
-use Rattle.ssim_records.specs.clauses.Blocks.{CountsOn}
+use Rattle.ssim_records.specs.clauses.Blocks.{BytesCame}
 use Rattle.ssim_records.specs.Device.{Reader}
 use Rattle.ssim_records.proofs.Framing.{Stays}
 use Rattle.ssim_records.proofs.blocks.next_block.Given as goal
@@ -8,7 +8,7 @@ use Rattle.ssim_records.proofs.blocks.next_block.Given as goal
 pub record Goes {R : Type 0} (state : R → Reader) (after_block : Bool) (limit came0 came : ℕ) (old held : List ℕ) (before reader : R) : Type 0 where
   pub came_fits : came ≤ limit + 1
   pub stays : Stays after_block came0 old (state before).left came held (state reader).left
-  pub counts : CountsOn (state before) (state reader) came0 came
+  pub bytes : BytesCame (state before) (state reader) came0 came
   pub no_failure : (state reader).failures ≡ (state before).failures
   pub few : length held + came0 ≤ length old + came
 

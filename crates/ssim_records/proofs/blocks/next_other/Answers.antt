@@ -2,7 +2,7 @@
 -- fill.
 use Rattle.std.proofs.Common.{◌≡◌, ◌+◌, ◌∙◌, Ok, Err, Some, None, true, false, take, length, ap, sym, refl, arith, rules}
 use Rattle.std.proofs.lemmas.List.{length-drop}
-use Rattle.ssim_records.proofs.Framing.{one_more, counts_none, counts_twice, fetches_first, fetches_on, gives_other, none_skipped}
+use Rattle.ssim_records.proofs.Framing.{one_more, came_none, came_twice, fetches_first, fetches_on, gives_other, none_skipped}
 use Rattle.ssim_records.proofs.blocks.next_other.Goals as goal
 
 pub loop-more-init : goal.loop-more-init
@@ -12,7 +12,7 @@ loop-more-init g c = record {
   counted = omega (arith, c.requires.counted);
   skipped = none_skipped c.args.limit c.args.number.now c.args.came.now c.args.window.now (g.R.Source.state c.args.reader.now).left;
   fetched = fetches_first _ c.args.number.now c.args.window.now (g.R.Source.state c.args.reader.now).left;
-  counts = counts_none (g.R.Source.state c.args.reader.now).left (g.R.Source.state c.args.reader.now).came c.args.came.now;
+  bytes = came_none (g.R.Source.state c.args.reader.now).left (g.R.Source.state c.args.reader.now).came c.args.came.now;
   no_failure = refl;
 }
 
@@ -30,7 +30,7 @@ loop-more-preserved g c =
       counted = omega (arith, c.next_block.ensures.held, long, less, length-drop 200 c.next_block.new.window, c.loop-more.invariant.counted);
       skipped = rw c.skip.ensures (one_more _ _ _ _ _ _ _ _ _ _ _ _ (take 200 c.next_block.new.window) c.loop-more.invariant.skipped b (rw (← c.front.ensures) (sym c.is_fill.ensures ∙ c.if-not-is_fill.false)));
       fetched = rw c.skip.ensures (fetches_on _ _ (c.loop-more.number + 1) 0 1 _ _ _ _ _ _ c.loop-more.invariant.fetched fetched (omega arith));
-      counts = counts_twice _ _ _ _ _ _ _ _ _ c.loop-more.invariant.counts c.next_block.ensures.count;
+      bytes = came_twice _ _ _ _ _ _ _ _ _ c.loop-more.invariant.bytes c.next_block.ensures.bytes;
       no_failure = fault ∙ c.loop-more.invariant.no_failure;
     }
 
@@ -54,12 +54,10 @@ returns-then-not-is_fill-clause-block g c =
     gives_other _ _ _ _ _ _ _ _ _ _ _ _ _ (Ok (Some (take 200 c.next_block.new.window))) c.loop-more.invariant.skipped b (refl, rw (← c.front.ensures) (sym c.is_fill.ensures ∙ c.if-not-is_fill.true))
 
 pub returns-then-not-is_fill-clause-counted : goal.returns-then-not-is_fill-clause-counted
-returns-then-not-is_fill-clause-counted g c =
-    let e : c.next_block.result ≡ Ok true = search rules in
-    omega (arith, c.next_block.ensures.held, c.next_block.ensures.long e, length-drop 200 c.next_block.new.window, c.loop-more.invariant.counted)
+returns-then-not-is_fill-clause-counted g c = omega (arith, c.next_block.ensures.held, c.loop-more.invariant.counted)
 
-pub returns-then-not-is_fill-clause-count : goal.returns-then-not-is_fill-clause-count
-returns-then-not-is_fill-clause-count g c = counts_twice _ _ _ _ _ _ _ _ _ c.loop-more.invariant.counts c.next_block.ensures.count
+pub returns-then-not-is_fill-clause-bytes : goal.returns-then-not-is_fill-clause-bytes
+returns-then-not-is_fill-clause-bytes g c = came_twice _ _ _ _ _ _ _ _ _ c.loop-more.invariant.bytes c.next_block.ensures.bytes
 
 pub loop-more-smaller : goal.loop-more-smaller
 loop-more-smaller g c =

@@ -1,7 +1,7 @@
 -- The blocks so far were fill, and those other than fill stay the same.
 use Rattle.std.proofs.Common.{◌≡◌, ◌≤◌, ◌+◌, ◌-◌, ◌*◌, ℕ, List, length}
 use Rattle.std.specs.Prelude.{nat_lt}
-use Rattle.ssim_records.specs.clauses.Blocks.{CountsOn, Fetches}
+use Rattle.ssim_records.specs.clauses.Blocks.{BytesCame, Fetches}
 use Rattle.ssim_records.specs.Device.{Reader}
 use Rattle.ssim_records.proofs.Framing.{Skipped}
 use Rattle.ssim_records.proofs.blocks.next_other.Given as goal
@@ -12,7 +12,7 @@ pub record Goes {R : Type 0} (state : R → Reader) (limit came0 came number0 nu
   pub counted : 200 * number + length held ≤ came
   pub skipped : Skipped limit number0 came0 held0 (state before).left number came held (state reader).left
   pub fetched : Fetches (nat_lt 0 number0) number0 held0 (state before).left number held (state reader).left
-  pub counts : CountsOn (state before) (state reader) came0 came
+  pub bytes : BytesCame (state before) (state reader) came0 came
   pub no_failure : (state reader).failures ≡ (state before).failures
 
 abbrev pub invariant-loop-more : goal.invariant-loop-more

@@ -1,6 +1,6 @@
 -- The bytes that came are those that the reader no longer has left.
 use Rattle.std.proofs.Common.{◌≡◌, ◌≤◌, ◌+◌, ◌-◌, ℕ}
-use Rattle.ssim_records.specs.clauses.Blocks.{CameOn, CountsOn, StaysLeft}
+use Rattle.ssim_records.specs.clauses.Blocks.{BytesCame, StaysLeft}
 use Rattle.ssim_records.specs.Device.{Reader}
 use Rattle.ssim_records.proofs.blocks.skip_rest.Given as goal
 
@@ -8,8 +8,7 @@ pub record Goes {R : Type 0} (state : R → Reader) (limit came0 came : ℕ) (be
   pub came_fits : came ≤ limit + 1
   pub more : came0 ≤ came
   pub left : StaysLeft (state before).left (state reader).left
-  pub total : CameOn (state before).left (state reader).left came0 came
-  pub counts : CountsOn (state before) (state reader) came0 came
+  pub bytes : BytesCame (state before) (state reader) came0 came
   pub no_failure : (state reader).failures ≡ (state before).failures
 
 abbrev pub invariant-loop-came : goal.invariant-loop-came

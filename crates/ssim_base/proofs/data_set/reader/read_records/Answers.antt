@@ -1,20 +1,22 @@
 -- From record to record, by the lemmas on what was read so far; each result that ends the reading
 -- is the outcome of the bytes.
-use Rattle.std.proofs.Common.{rules, ◌≡◌, ℕ, ◌+◌, Some, None, Ok, Err, false, [], ◌∷◌, ◌++◌, refl, sym, ap, subst, ◌∙◌, arith}
-use Rattle.ssim_records.specs.clauses.Blocks.{CountsOn, Fetches}
-use Rattle.ssim_records.specs.clauses.Reading.{Answer, Counts, FailsAs, GivesNext, HasNumber}
-use Rattle.ssim_records.specs.clauses.Reading.{HoldsFew, NeverEnds, Reading, ending_of, given}
-use Rattle.ssim_records.proofs.Framing.{counts_twice}
+use Rattle.std.proofs.Common.{rules, ◌≡◌, ℕ, ◌+◌, Option, Some, None, Ok, Err, false, [], ◌∷◌, ◌++◌, refl, sym, ap, subst, ◌∙◌, arith}
+use Rattle.ssim_records.specs.clauses.Blocks.{BytesCame, Fetches}
+use Rattle.ssim_records.specs.clauses.Reading.{Answer, Reading, ReadsRecord, ending_of, given}
+use Rattle.ssim_records.proofs.Framing.{came_twice}
 use Rattle.ssim_records.specs.declared.record.Record.{Record}
 use Rattle.ssim_base.specs.Base.{Done, kept}
 use Rattle.ssim_base.specs.clauses.Reading.{Came}
 use Rattle.ssim_base.specs.internal.Reading.{AreGivenOf}
 use Rattle.ssim_base.specs.declared.fault.BaseFault.TheVariants.{Memory}
-use Rattle.ssim_base.proofs.BlocksAhead.{counted-first, fetched-first, fetched-on, while-open}
-use Rattle.ssim_base.proofs.ReadingLemmas.{Numbered, Told, came-in, ended-beyond, fails-after}
-use Rattle.ssim_base.proofs.ReadingLemmas.{fault-fails, never-refused, never-fails, refused-fails}
+use Rattle.ssim_base.proofs.BlocksAhead.{came-first, fetched-first, fetched-on, have-come}
+use Rattle.ssim_base.proofs.BlocksAhead.{while-open}
+use Rattle.ssim_base.proofs.ReadingLemmas.{Numbered, Told, ended-beyond}
+use Rattle.ssim_base.proofs.ReadingLemmas.{fails-after, fault-fails, never-refused, never-fails}
+use Rattle.ssim_base.proofs.ReadingLemmas.{refused-fails}
 use Rattle.ssim_base.proofs.ReadingLemmas.{step-refused, nothing, one-more, told-end, told-fault}
 use Rattle.ssim_base.proofs.ReadingLemmas.{told-first, told-step}
+use Rattle.ssim_base.proofs.RecordsAhead.{Says, says}
 use Rattle.ssim_base.proofs.RestLemmas.{after-fault, after-refused}
 use Rattle.ssim_base.proofs.data_set.reader.read_records.Given as context
 use Rattle.ssim_base.proofs.data_set.reader.read_records.Goals.{After-next_into}
@@ -39,66 +41,48 @@ loop-number-init g c =
       told = subst (λ (r : Reading). Told limit left left r []) (sym fresh)
           (told-first limit left c.frames_are_one.ensures.exist);
       fetched = fetched-first left fresh;
-      counts = counted-first before fresh;
+      came = came-first before fresh;
       no_failure = refl;
     }
 
 -- ---- what a call for the next record says
 
--- of what it returned
-record Says (g : context.Over) (c : After-next_into g) (a : Answer) : Type 0 where
-  gives : GivesNext c.loop-number.blocks (g.R.Source.state c.loop-number.reader).left
-      c.next_into.new.self (g.R.Source.state c.next_into.new.reader).left a
-  failure : FailsAs (g.R.Source.state c.loop-number.reader).failures
-      (g.R.Source.state c.next_into.new.reader).failures a
-  number : HasNumber c.next_into.new.self.number a
-  counts : Counts c.loop-number.blocks c.next_into.new.self a
-  few : HoldsFew c.next_into.new.self.held a
-  over : NeverEnds c.next_into.new.self a
+reads : (g : context.Over) (c : After-next_into g)
+    → ReadsRecord c.loop-number.blocks (g.R.Source.state c.loop-number.reader)
+    c.next_into.new.self (g.R.Source.state c.next_into.new.reader)
+    (given c.next_into.new.into c.next_into.result)
+reads g c = while-open _ c.loop-number.invariant.open' c.next_into.ensures.reads
 
-says : (g : context.Over) (c : After-next_into g) (a : Answer)
-    → given c.next_into.new.into c.next_into.result ≡ a → Says g c a
-says g c a is =
-    let open' = c.loop-number.invariant.open' in
-    subst (Says g c) is (record {
-      gives = while-open _ open' c.next_into.ensures.record;
-      failure = while-open _ open' c.next_into.ensures.fault;
-      number = while-open _ open' c.next_into.ensures.number;
-      counts = while-open _ open' c.next_into.ensures.counts;
-      few = while-open _ open' c.next_into.ensures.few_left;
-      over = while-open _ open' c.next_into.ensures.never_ends;
-    })
+-- of what it returned
+returned : (g : context.Over) (c : After-next_into g) (a : Answer)
+    → given c.next_into.new.into c.next_into.result ≡ a
+    → Says c.loop-number.blocks (g.R.Source.state c.loop-number.reader) c.next_into.new.self
+    (g.R.Source.state c.next_into.new.reader) a
+returned g c a is =
+    subst (Says c.loop-number.blocks (g.R.Source.state c.loop-number.reader)
+    c.next_into.new.self (g.R.Source.state c.next_into.new.reader)) is (says (reads g c))
 
 -- of all bytes that were fetched
 fetched : (g : context.Over) (c : After-next_into g)
     → Fetches false 0 [] (g.R.Source.state c.args.reader.now).left c.next_into.new.self.number
     c.next_into.new.self.held (g.R.Source.state c.next_into.new.reader).left
 fetched g c =
-    let i = c.loop-number.invariant in
-    fetched-on _ _ _ c.loop-number.blocks c.next_into.new.self i.open' i.fetched
-    c.next_into.ensures.fetched
+    fetched-on _ _ _ c.loop-number.blocks c.next_into.new.self c.loop-number.invariant.fetched
+    (reads g c).reads.fetched
 
 -- and of how many came
-counts : (g : context.Over) (c : After-next_into g)
-    → CountsOn (g.R.Source.state c.args.reader.now) (g.R.Source.state c.next_into.new.reader) 0
+came-so-far : (g : context.Over) (c : After-next_into g)
+    → BytesCame (g.R.Source.state c.args.reader.now) (g.R.Source.state c.next_into.new.reader) 0
     c.next_into.new.self.came
-counts g c =
-    let i = c.loop-number.invariant in
-    counts_twice _ _ _ _ _ _ _ _ _ i.counts (while-open _ i.open' c.next_into.ensures.count)
+came-so-far g c =
+    came_twice _ _ _ _ _ _ _ _ _ c.loop-number.invariant.came (reads g c).reads.came
 
 came : (g : context.Over) (c : After-next_into g)
     → Came (g.R.Source.state c.args.reader.now) (g.R.Source.state c.next_into.new.reader)
     c.next_into.new.self.came
 came g c =
-    let i = c.loop-number.invariant in
-    let old = c.loop-number.blocks in
-    let new = c.next_into.new.self in
-    let before = g.R.Source.state c.args.reader.now in
-    let mid = g.R.Source.state c.loop-number.reader in
-    let after = g.R.Source.state c.next_into.new.reader in
-    came-in c.args.blocks.now.limit before.left mid.left after.left before.came after.came new.came
-    old new i.done _ refl i.told (while-open old.ended i.open' c.next_into.ensures.record)
-    (counts g c)
+    have-come (g.R.Source.state c.args.reader.now) (g.R.Source.state c.next_into.new.reader)
+    c.next_into.new.self.came (came-so-far g c)
 
 -- ---- a record was read
 
@@ -111,8 +95,8 @@ loop-number-preserved g c =
     let x : Numbered = (c.in-Ok.number, c.in-Some.record) in
     let answer : given c.next_into.new.into c.next_into.result ≡ Ok (Some x) =
     rw (c.in-Ok.is, c.in-Some.is) refl in
-    let next = says g at (Ok (Some x)) answer in
-    let more = next.counts.1 in
+    let next = returned g at (Ok (Some x)) answer in
+    let more = next.number.2 in
     let same = c.next_into.ensures.limit in
     let limit = i.limit_is in
     let taken = c.in_ok-take-in-Some.ensures in
@@ -132,7 +116,7 @@ loop-number-preserved g c =
           (g.R.Source.state c.loop-number.reader).left
           (g.R.Source.state c.next_into.new.reader).left old new i.done x i.told next.gives;
       fetched = fetched g at;
-      counts = counts g at;
+      came = came-so-far g at;
       no_failure = next.failure ∙ i.no_failure;
     }
 
@@ -143,7 +127,7 @@ returns-in_err-take-in-Some-clause-err g c =
     let at = (goal.at.returns-in_err-take-in-Some-clause-err g c).After-next_into in
     let i = c.loop-number.invariant in
     let x : Numbered = (c.in-Ok.number, c.in-Some.record) in
-    let next = says g at (Ok (Some x)) (rw (c.in-Ok.is, c.in-Some.is) refl) in
+    let next = returned g at (Ok (Some x)) (rw (c.in-Ok.is, c.in-Some.is) refl) in
     let fault = c.in_err-take-in-Some.field-0.0 in
     let refusal : c.from_residual.result ≡ Err fault = search rules in
     rw refusal (step-refused c.args.blocks.now.limit (g.R.Source.state c.args.reader.now).left
@@ -170,7 +154,7 @@ returns-in_err-take-in-Some-clause-by_record g c =
     let before = g.R.Source.state c.args.reader.now in
     let after = g.R.Source.state c.next_into.new.reader in
     let x : Numbered = (c.in-Ok.number, c.in-Some.record) in
-    let next = says g at (Ok (Some x)) (rw (c.in-Ok.is, c.in-Some.is) refl) in
+    let next = returned g at (Ok (Some x)) (rw (c.in-Ok.is, c.in-Some.is) refl) in
     let fault = c.in_err-take-in-Some.field-0.0 in
     let refused = c.in_err-take-in-Some.ensures.err i.earlier i.so_far.is_kept in
     let refusal : c.from_residual.result ≡ Err fault = search rules in
@@ -188,11 +172,11 @@ returns-in_err-take-in-Some-clause-next g c =
     let at = (goal.at.returns-in_err-take-in-Some-clause-next g c).After-next_into in
     let i = c.loop-number.invariant in
     let x : Numbered = (c.in-Ok.number, c.in-Some.record) in
-    let next = says g at (Ok (Some x)) (rw (c.in-Ok.is, c.in-Some.is) refl) in
+    let next = returned g at (Ok (Some x)) (rw (c.in-Ok.is, c.in-Some.is) refl) in
     let fault = c.in_err-take-in-Some.field-0.0 in
     let refusal : c.from_residual.result ≡ Err fault = search rules in
     rw refusal (after-refused c.next_into.new.self.number x.0 i.earlier x.1 fault
-    (c.in_err-take-in-Some.ensures.err i.earlier i.so_far.is_kept) next.number)
+    (c.in_err-take-in-Some.ensures.err i.earlier i.so_far.is_kept) next.number.0)
 
 -- ---- memory runs out
 
@@ -206,7 +190,7 @@ pub returns-in_err-push_record-in-Some-clause-by_record : goal.returns-in_err-pu
 returns-in_err-push_record-in-Some-clause-by_record g c =
     let at = (goal.at.returns-in_err-push_record-in-Some-clause-by_record g c).After-next_into in
     let x : Numbered = (c.in-Ok.number, c.in-Some.record) in
-    let next = says g at (Ok (Some x)) (rw (c.in-Ok.is, c.in-Some.is) refl) in
+    let next = returned g at (Ok (Some x)) (rw (c.in-Ok.is, c.in-Some.is) refl) in
     let refusal : c.from_residual-in_err-push_record-in-Some.result ≡ Err Memory = search rules in
     rw refusal (record {
       failure = next.failure ∙ c.loop-number.invariant.no_failure;
@@ -222,7 +206,7 @@ returns-in-None-clause-ok g c =
     let i = c.loop-number.invariant in
     let limit = c.args.blocks.now.limit in
     let left = (g.R.Source.state c.args.reader.now).left in
-    let next = says g at (Ok None) (rw (c.in-Ok.is, c.in-None.is) refl) in
+    let next = returned g at (Ok None) (rw (c.in-Ok.is, c.in-None.is) refl) in
     record {
       earlier = i.earlier;
       done = i.done;
@@ -252,7 +236,7 @@ returns-in-Err-clause-err g c =
     let at = (goal.at.returns-in-Err-clause-err g c).After-next_into in
     let i = c.loop-number.invariant in
     let fault = c.in-Err.fault in
-    let next = says g at (Err fault) (rw c.in-Err.is refl) in
+    let next = returned g at (Err fault) (rw c.in-Err.is refl) in
     told-fault c.args.blocks.now.limit (g.R.Source.state c.args.reader.now).left
     (g.R.Source.state c.loop-number.reader).left (g.R.Source.state c.next_into.new.reader).left
     c.loop-number.blocks c.next_into.new.self c.loop-number.records_read i.earlier i.done fault
@@ -277,22 +261,21 @@ returns-in-Err-clause-by_record g c =
     let mid = g.R.Source.state c.loop-number.reader in
     let after = g.R.Source.state c.next_into.new.reader in
     let fault = c.in-Err.fault in
-    let next = says g at (Err fault) (rw c.in-Err.is refl) in
+    let next = returned g at (Err fault) (rw c.in-Err.is refl) in
     record {
       failure =
-          fault-fails before.failures mid.failures after.failures fault i.no_failure next.failure;
+          fault-fails (Option Numbered) before.failures mid.failures after.failures fault i.no_failure next.failure;
       fails_after =
           fails-after limit before.left mid.left after.left old new c.loop-number.records_read
           i.earlier i.done fault i.so_far i.told next.gives
-          (while-open old.ended i.open' c.next_into.ensures.fetched) (fetched g at) next.number
-          next.few;
+          (reads g at).reads.fetched (fetched g at) next.number next.held;
       never_ends =
-          ended-beyond limit before.left mid.left after.left before.came after.came old new i.done
-          fault (c.next_into.ensures.limit ∙ i.limit_is) i.told next.gives (counts g at) next.over;
+          ended-beyond (Option Numbered) limit (Came before after) new fault
+          (c.next_into.ensures.limit ∙ i.limit_is) (came g at) next.held;
     }
 
 pub returns-in-Err-clause-next : goal.returns-in-Err-clause-next
 returns-in-Err-clause-next g c =
     let at = (goal.at.returns-in-Err-clause-next g c).After-next_into in
-    let next = says g at (Err c.in-Err.fault) (rw c.in-Err.is refl) in
-    after-fault c.next_into.new.self.number c.in-Err.fault next.number
+    let next = returned g at (Err c.in-Err.fault) (rw c.in-Err.is refl) in
+    after-fault c.loop-number.blocks c.next_into.new.self c.in-Err.fault next.number

@@ -1,7 +1,7 @@
 -- The records so far were read, and the bytes that are left have the others.
 use Rattle.std.proofs.Common.{◌≡◌, ℕ, ◌+◌, ◌-◌, ◌*◌, ◌≤◌, false, List, []}
 use Rattle.std.specs.Prelude.{None}
-use Rattle.ssim_records.specs.clauses.Blocks.{CountsOn, Fetches}
+use Rattle.ssim_records.specs.clauses.Blocks.{BytesCame, Fetches}
 use Rattle.ssim_records.specs.Device.{Reader}
 use Rattle.ssim_records.specs.clauses.Reading.{Reading}
 use Rattle.ssim_records.specs.declared.record.Record.{Record}
@@ -21,7 +21,7 @@ pub record Goes {R : Type 0} (state : R → Reader) (limit : ℕ)
   pub so_far : IsSoFar g earlier done
   pub told : Told limit (state before).left (state reader).left r done
   pub fetched : Fetches false 0 [] (state before).left r.number r.held (state reader).left
-  pub counts : CountsOn (state before) (state reader) 0 r.came
+  pub came : BytesCame (state before) (state reader) 0 r.came
   pub no_failure : (state reader).failures ≡ (state before).failures
 
 abbrev pub invariant-loop-number : goal.invariant-loop-number

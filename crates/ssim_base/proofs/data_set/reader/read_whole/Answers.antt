@@ -40,10 +40,10 @@ returns-in-Ok-skip_rest-clause-err g c =
     let end' = c.in-Ok-skip_rest.ensures.end in
     record {
       refused =
-          rest-refused c.args.limit before.left mid.left after.left before.came mid.came
-          c.read_records.new.blocks.came c.skip_rest.new.self.came fault
+          rest-refused c.args.limit before mid after c.read_records.new.blocks.came
+          c.skip_rest.new.self.came fault
           (subst (λ (n : ℕ). Refuses n before.left fault) limit c.in-Err.ensures.err)
-          c.in-Err.ensures.came c.skip_rest.ensures.total end'.0
+          c.in-Err.ensures.came c.skip_rest.ensures.came end'.0
           (subst (λ (n : ℕ). c.skip_rest.new.self.came ≤ n) same end'.1);
       failure =
           bytes-fail before.failures mid.failures after.failures fault is c.in-Err.ensures.by_record.failure
@@ -79,6 +79,5 @@ returns-in-Err-skip_rest-clause-err g c =
           c.skip_rest.ensures.number fails;
       never_ends =
           rest-ends c.args.limit before mid after c.read_records.new.blocks.came
-          c.skip_rest.new.self rest same c.in-Err.ensures.came c.skip_rest.ensures.total
-          c.skip_rest.ensures.count fails;
+          c.skip_rest.new.self rest same c.in-Err.ensures.came c.skip_rest.ensures.came fails;
     }
