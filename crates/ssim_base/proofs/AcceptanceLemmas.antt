@@ -1,7 +1,7 @@
 -- One more record before those that are kept: what its leg adds to the table of leg records, and
 -- that it is allowed.
 use Rattle.ssim_periods.specs.CommonDays.{have_common_date, meet}
-use Rattle.std.proofs.Common.{◌≡◌, ◌≢◌, ℕ, Bool, true, false, ◌&&◌, ◌||◌, nat_eq, nat_lt, List, [], ◌∷◌, Some, None, unwrap_or, refl, sym, ap, subst, ◌∙◌, arith}
+use Rattle.std.proofs.Common.{◌≡◌, ◌≢◌, ℕ, Bool, true, false, ◌&&◌, ◌||◌, nat_eq, List, [], ◌∷◌, Some, None, unwrap_or, refl, sym, ap, subst, ◌∙◌, arith}
 use Rattle.std.proofs.lemmas.Bool.Decides.{nat_tests}
 use Rattle.std.specs.List.{list_any, range_with_len}
 use Rattle.std.specs.Str.{bytes_eq}
@@ -297,17 +297,3 @@ module _ (old : Acceptance) (heading : CarrierTerms) (r : LegFields) (p : DayRan
                 r.name.variation q) (its-period heading r p s) adds);
           });
         }
-
--- a leg record that is refused before its dates are compared
-pub leg-airline : (heading : CarrierTerms) (r : LegFields) (earlier : List Record) → IsExpectedAfter (expected.Legs heading) earlier → bytes_eq r.name.airline heading.airline ≡ false
-    → refusal_at earlier (Leg r) ≡ Some refused.OtherAirline
-leg-airline heading r earlier here other =
-    let own : bytes_eq r.name.airline (airline_of earlier) ≡ false = ap (bytes_eq r.name.airline) (sym here.1) ∙ other in
-    rw (legs-follow earlier here.0 (Leg r) refl, own) refl
-
-pub leg-order : (heading : CarrierTerms) (r : LegFields) (earlier : List Record) → IsExpectedAfter (expected.Legs heading) earlier → bytes_eq r.name.airline heading.airline ≡ true
-    → is_overflow r.overflow ≡ false → is_rate r.rate ≡ true → nat_lt (unwrap_or r.last heading.end) r.first ≡ true → refusal_at earlier (Leg r) ≡ Some refused.OpenEnd
-leg-order heading r earlier here airline blank weekly turned =
-    let own : bytes_eq r.name.airline (airline_of earlier) ≡ true = ap (bytes_eq r.name.airline) (sym here.1) ∙ airline in
-    let end : unwrap_or r.last (carrier_end earlier) ≡ unwrap_or r.last heading.end = ap (unwrap_or r.last) (sym here.2) in
-    rw (legs-follow earlier here.0 (Leg r) refl, own, blank, weekly, end, turned) refl

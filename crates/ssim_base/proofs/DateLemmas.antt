@@ -157,12 +157,6 @@ pub record Met (p : DayRange) (day : ℕ) (words : List ℕ) (met : Bool) : Type
   pub found : met ≡ true → have_common_date (holds p) (has_date words) ≡ true
   pub none : met ≡ false → (n : ℕ) → n < day → (holds p n && has_date words n) ≡ false
 
-pub met-first : (p : DayRange) (words : List ℕ) → Met p p.first words false
-met-first p words = record {
-  found = λ h. absurd cc;
-  none = λ h n l. let early : nat_le p.first n ≡ false = grind (arith, nat_tests) in rw early refl;
-}
-
 pub met-day : (p : DayRange) (day : ℕ) (words : List ℕ) (met had : Bool) → holds p day ≡ true → day < 36525 → had ≡ has_date words day → Met p day words met → Met p (day + 1) words (met || had)
 met-day p day words met had is within own so = record {
   found = by_found met refl had refl;
@@ -213,13 +207,6 @@ met-last p words met so = by met refl
 pub record Added (p : DayRange) (day : ℕ) (old new : List ℕ) (met : Bool) : Type 0 where
   pub added : (n : ℕ) → has_date new n ≡ ((holds p n && nat_lt n day) || has_date old n)
   pub meets : Met p day old met
-
-pub added-first : (p : DayRange) (words : List ℕ) → Added p p.first words words false
-added-first p words = record { added = λ n. by n (nat_lt n p.first) refl; meets = met-first p words }
-  where
-    by : (n : ℕ) (b : Bool) → nat_lt n p.first ≡ b → has_date words n ≡ ((holds p n && nat_lt n p.first) || has_date words n)
-    by n true e = let early : nat_le p.first n ≡ false = grind (arith, nat_tests) in rw early refl
-    by n false e = let none : (holds p n && nat_lt n p.first) ≡ false = rw e (and-false (holds p n)) in rw none refl
 
 pub added-day : (p : DayRange) (day : ℕ) (old new more : List ℕ) (met had : Bool) → holds p day ≡ true → day < 36525
     → ((n : ℕ) → has_date more n ≡ (nat_eq n day || has_date new n)) → had ≡ has_date new day

@@ -1,21 +1,19 @@
 -- Flights without a flown day add nothing: the ranks of the flown flights rise through the range of
 -- all ranks.
-use Rattle.std.proofs.Common.{◌≡◌, ℕ, zero, suc, ◌+◌, ◌<◌, ◌≤◌, Bool, true, false, ◌||◌, nat_eq, if◌then◌else◌, List, [], ◌∷◌, ◌++◌, map, length, Ok, refl, sym, ap, ◌∙◌, arith}
+use Rattle.std.proofs.Common.{◌≡◌, ℕ, zero, suc, ◌+◌, ◌<◌, ◌≤◌, Bool, true, false, ◌||◌, nat_eq, if◌then◌else◌, List, [], ◌∷◌, ◌++◌, map, length, refl, sym, ap, ◌∙◌, arith}
 use Rattle.std.proofs.lemmas.Bool.Decides.{nat_tests}
 use Rattle.std.specs.List.{flat_map, list_any}
 use Rattle.ssim_values.specs.Flight.{FlightNumber}
 use Rattle.ssim_records.specs.declared.record.Record.{Record}
 use Rattle.ssim_base.specs.Timetable.{Days, same_flight, on_day}
-use Rattle.ssim_base.specs.Export.{Frame, same_itinerary, pieces, pieces_records, flight_records}
+use Rattle.ssim_base.specs.Export.{same_itinerary, pieces, pieces_records, flight_records}
 use Rattle.ssim_base.specs.Export.{flights_records, flight_count, flight_at, all_flights, sections}
-use Rattle.ssim_base.specs.Export.{export_unless_refused, export_refusal, chapter7_records}
+use Rattle.ssim_base.specs.Export.{export_unless_refused, export_refusal}
 use Rattle.ssim_base.specs.ReadBack as law
 use Rattle.ssim_base.specs.ReadBack.{place_of}
 use Rattle.ssim_base.proofs.ExportLaws.{FlownSuffice}
 use Rattle.ssim_periods.specs.Pieces.{values_of, pieces_with, sort_by_first}
 use Rattle.ssim_base.proofs.Places.{flight-is, flight-place, place-below, same-places}
-use Rattle.ssim_periods.specs.Days.{each_day}
-use Rattle.ssim_base.proofs.Calendars.{length-each_day, at-each_day}
 use Rattle.ssim_base.proofs.Parts.{flights_from}
 use Rattle.ssim_base.proofs.Whole.{refusal_after}
 
@@ -134,9 +132,3 @@ unflown-values (v ∷ days) h =
 -- a flight with no flown day has no piece
 pub unflown : (days : Days) → ((n : ℕ) → n < length days → on_day days n ≡ []) → pieces days ≡ []
 unflown days h = ap (λ values. sort_by_first (flat_map (pieces_with same_itinerary days) values)) (unflown-values days h)
-
--- a timetable without a flight has an export, of header, carrier and trailer
-pub empty_export : (frame : Frame) → chapter7_records frame (λ f. each_day (λ n. [])) ≡ Ok (sections frame [])
-empty_export frame =
-    flown_suffice frame (λ f. each_day (λ n. [])) [] tt
-    (λ f exists out. unflown (each_day (λ n. [])) (λ n l. let len = length-each_day (λ n. []) in at-each_day (λ n. []) n (omega arith)))

@@ -39,12 +39,6 @@ legs-push (x ∷ flights) flight (suc k) none = legs-push flights flight k none
 
 -- ---- one flight changes
 
-pub legs-set : (flights : List FlightLegs) (i : ℕ) (flight : FlightLegs) → i < length flights → legs_in (set flights i flight) i ≡ flight.entries.items
-legs-set flights i flight l = ap entries_of (get-set flights i flight l)
-
-pub legs-set_other : (flights : List FlightLegs) (i k : ℕ) (flight : FlightLegs) → k ≢ i → legs_in (set flights i flight) k ≡ legs_in flights k
-legs-set_other flights i k flight other = ap entries_of (get-set_other flights i k flight other)
-
 apart : (k place : ℕ) → k ≢ place → k / 27 ≡ place / 27 → k % 27 ≢ place % 27
 apart k place other same equal = other (omega arith)
 

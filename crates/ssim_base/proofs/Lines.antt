@@ -1,5 +1,5 @@
 -- The bytes of an export as lines of records and fill, and what the numbers of its records are.
-use Rattle.std.proofs.Common.{arith, ◌≡◌, ℕ, zero, suc, ◌+◌, ◌%◌, List, [], ◌∷◌, ◌++◌, map, length, replicate, Option, Some, None, Result, Ok, Err, refl, sym, ap, ◌∙◌, append_assoc}
+use Rattle.std.proofs.Common.{◌≡◌, ℕ, zero, suc, ◌+◌, List, [], ◌∷◌, ◌++◌, map, length, replicate, Option, Some, None, Result, Ok, Err, refl, sym, ap, ◌∙◌, append_assoc}
 use Rattle.std.specs.List.{flat_map}
 use Rattle.ssim_records.specs.Frames.{fill}
 use Rattle.ssim_records.specs.Record.{written, block_of, lines, numbered, AreItems, WrittenSpells}
@@ -103,7 +103,3 @@ from_sections (Ok sections) bytes h = (sections, refl, cc)
 from_sections (Err e) bytes h = absurd cc
 
 -- ---- fill
-
--- the records of a section with its fill are a multiple of five
-pub fill-fives : (n : ℕ) → (n + fill_count n) % 5 ≡ 0
-fill-fives n = omega arith

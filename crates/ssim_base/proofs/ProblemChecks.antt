@@ -2,29 +2,17 @@
 use Rattle.std.proofs.Common.{◌≡◌, ◌∙◌, ℕ, Bool, true, false, ◌||◌, List, [], ◌∷◌, ◌++◌, Option, Some, None, Ok, Err, true≢false, refl, sym, ap, subst}
 use Rattle.ssim_records.specs.declared.record.Record.{Record}
 use Rattle.ssim_records.specs.declared.fault.RecordFault.{RecordFault}
-use Rattle.ssim_base.specs.Base.{refusal_at}
 use Rattle.ssim_records.specs.Record.{Spells, fault_of}
-use Rattle.ssim_base.specs.Problems.{Alone, After, Item, Says, Standing, alone_refusal}
-use Rattle.ssim_base.specs.Problems.{after_invalid, after_item, is_at_heading, fault_at, problem_in}
-use Rattle.ssim_base.specs.internal.Acceptance.{Accepts, HasAccepted, IsLeft, IsRecordRefused, Stays}
+use Rattle.ssim_base.specs.Problems.{Alone, After, Item, Says, Standing}
+use Rattle.ssim_base.specs.Problems.{after_invalid, after_item, is_at_heading, problem_in}
+use Rattle.ssim_base.specs.internal.Acceptance.{Accepts, HasAccepted, IsLeft}
 use Rattle.ssim_base.specs.internal.Problems.{Finds, Passes, HasStanding, listed}
-use Rattle.ssim_base.specs.declared.data_set.acceptance.Acceptance.{Acceptance}
 use Rattle.ssim_base.specs.declared.fault.BaseFault.{BaseFault}
-use Rattle.ssim_base.specs.declared.fault.BaseFault.TheVariants as fault
 use Rattle.ssim_base.specs.declared.fault.BaseFault.TheVariants.{Read, Refused}
 use Rattle.ssim_base.specs.declared.fault.BaseRefusal.{BaseRefusal}
 use Rattle.ssim_base.specs.declared.problems.Checks.{Checks}
 
 -- ---- a record that is offered
-
--- a refused record leaves the state: a leg is refused before it is added
-pub left-by-put : (leg : Bool) (old new : Acceptance) (number : ℕ) (earlier : List Record) (r : Record) (e : BaseFault)
-    → HasAccepted old earlier → IsRecordRefused number earlier r e → Stays leg old new e
-    → (leg ≡ true → refusal_at earlier r ≡ None) → IsLeft new number earlier r e
-left-by-put leg old new number earlier r fault.Memory has is stays valid = tt
-left-by-put leg old new number earlier r (Read f) has is stays valid = absurd is
-left-by-put true old new number earlier r (Refused n refusal) has is stays valid = let none = valid refl in let some = is.1 in absurd cc
-left-by-put false old new number earlier r (Refused n refusal) has is stays valid = (is.0, is.1, subst (λ a. HasAccepted a earlier) (sym (stays refl)) has)
 
 -- ---- the checks
 
@@ -41,13 +29,6 @@ passes old new same heading heads alone (After earlier) is =
         → HasStanding new (after_invalid earlier)
     by earlier true e now has = rw e (now ∙ e)
     by earlier false e now has = rw e (now ∙ e, has)
-
--- a record is checked by itself
-pub found-alone : (old new : Checks) (number : ℕ) (one : Record) (problem : Option BaseFault)
-    → new ≡ old → old.alone ≡ true → listed problem ≡ fault_at number (alone_refusal one)
-    → Finds old new number one problem
-found-alone old new number one problem same alone is Alone stands = (ap (λ c. c.alone) same ∙ alone, is)
-found-alone old new number one problem same alone is (After earlier) stands = absurd (true≢false (sym alone ∙ stands.0))
 
 -- a record is valid after those before it
 pub found-none : (old new : Checks) (number : ℕ) (one closed : Record)

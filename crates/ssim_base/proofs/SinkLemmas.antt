@@ -7,7 +7,7 @@ use Rattle.std.proofs.lemmas.Grind.{common_steps}
 use Rattle.std.proofs.lemmas.List.{take-append-drop, take_more_set}
 use Rattle.std.proofs.lemmas.Slice.{take-put_mid, drop-put_mid}
 use borrow.Rule.Slice.PartMut.{put_mid}
-use Rattle.std.specs.Io.KnownBytes.{Appends, Keeps}
+use Rattle.std.specs.Io.KnownBytes.{Appends}
 use Rattle.ssim_records.specs.Device.{Writer}
 use Rattle.ssim_records.specs.Frames.{fill}
 use Rattle.ssim_records.specs.Record.{written}
@@ -23,11 +23,6 @@ nothing_after (x ∷ xs) = ap (λ (ys : List ℕ). x ∷ ys) (nothing_after xs)
 appends-none : (t : Option (List ℕ)) → Appends t t []
 appends-none None = tt
 appends-none (Some xs) = sym (nothing_after xs)
-
-pub appends-kept : (t u : Option (List ℕ)) → Keeps t u → Appends t u []
-appends-kept None u h = tt
-appends-kept (Some xs) None h = absurd h
-appends-kept (Some xs) (Some ys) h = h ∙ sym (nothing_after xs)
 
 appends-then : (t u v : Option (List ℕ)) (front more : List ℕ) → Appends t u front → Appends u v more → Appends t v (front ++ more)
 appends-then None u v front more h k = tt

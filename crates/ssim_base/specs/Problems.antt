@@ -10,7 +10,6 @@ use Rattle.ssim_records.specs.declared.record.Record.TheVariants.{Leg, Segment, 
 use Rattle.ssim_base.specs.Base.{first_of, is_continued, is_overflow, is_rate, kept, missing, refusal_at, refuse_if}
 use Rattle.ssim_base.specs.declared.fault.BaseFault.{BaseFault}
 use Rattle.ssim_base.specs.declared.fault.BaseFault.TheVariants.{Read, Refused}
-use Rattle.ssim_base.specs.declared.fault.BaseFault.TheVariants as fault
 use Rattle.ssim_base.specs.declared.fault.BaseRefusal.{BaseRefusal}
 use Rattle.ssim_base.specs.declared.fault.BaseRefusal.TheVariants as refused
 use Rattle.ssim_base.specs.declared.problems.Problems.{Problems}

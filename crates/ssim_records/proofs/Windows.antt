@@ -4,7 +4,7 @@ use Rattle.std.proofs.Common.{◌≡◌, ℕ, suc, ◌+◌, ◌-◌, ◌≤◌, 
 use Rattle.std.specs.Prelude.{slice_range}
 use Rattle.std.specs.List.{copy_within}
 use Rattle.std.specs.Io.KnownBytes.{Consumes}
-use Rattle.std.proofs.lemmas.List.{take-take, drop-take, drop-drop, take_at, drop_at, length-append, take-append-le, take-append-drop}
+use Rattle.std.proofs.lemmas.List.{drop-take, drop-drop, take_at, drop_at, length-append, take-append-le}
 use borrow.Rule.Slice.PartMut.{put_mid, post_of}
 use Rattle.ssim_records.specs.Frames.{drop_line_ends}
 use Rattle.ssim_records.specs.clauses.Blocks.{SameAhead}
@@ -34,14 +34,6 @@ pub window_rest : (x : List ℕ) (s e n : ℕ) → s + n ≤ e → drop n (slice
 window_rest x s e n h =
     let m : e - s ≡ n + (e - (s + n)) = omega arith in
     ap (λ (w : ℕ). drop n (take w (drop s x))) m ∙ drop-take n (e - (s + n)) (drop s x) ∙ ap (take (e - (s + n))) (drop-drop n s x)
-
-pub window_split : (x : List ℕ) (s e n : ℕ) → s + n ≤ e → slice_range x s e ≡ take ((s + n) - s) (drop s x) ++ slice_range x (s + n) e
-window_split x s e n h =
-    let k : (s + n) - s ≡ n = omega arith in
-    let m : e - s ≡ n + (e - (s + n)) = omega arith in
-    let front : take n (take (e - s) (drop s x)) ≡ take n (drop s x) = take-take n (e - s) (drop s x) (omega arith) in
-    let back : drop n (take (e - s) (drop s x)) ≡ slice_range x (s + n) e = ap (λ (w : ℕ). drop n (take w (drop s x))) m ∙ drop-take n (e - (s + n)) (drop s x) ∙ ap (take (e - (s + n))) (drop-drop n s x) in
-    rw k (sym (take-append-drop n (slice_range x s e)) ∙ ap (λ (t : List ℕ). t ++ drop n (slice_range x s e)) front ∙ ap (λ (t : List ℕ). take n (drop s x) ++ t) back)
 
 pub window_drops : (x : List ℕ) (s e : ℕ) (rest : List ℕ) → s ≤ e → e ≤ length x → rest ≡ drop_line_ends (slice_range x s e) → slice_range x (e - length rest) e ≡ drop_line_ends (slice_range x s e)
 window_drops x s e rest le within is =
