@@ -15,10 +15,6 @@ use Rattle.ssim_columns.specs.clauses.Columns.{is_printed}
 use Rattle.ssim_columns.proofs.lemmas.Choices.{pick}
 use Rattle.ssim_columns.proofs.lemmas.Slices.{slice_in}
 
-pub unless_true : (b : Bool) → unless b ≡ None → b ≡ true
-unless_true true h = refl
-unless_true false h = absurd cc
-
 none_first : (a b : Option ℕ) → or_else a b ≡ None → (a ≡ None) × (b ≡ None)
 none_first None b h = (refl, h)
 none_first (Some n) b h = absurd cc

@@ -34,6 +34,3 @@ same_days d a b e s = ap days_of (same_part a b 27 35 1 8 e (lit≤ tt) (lit≤ 
 pub days_read : (o : Option (List Bool)) (a : List ℕ) → o ≡ days_of (columns 29 35 a) → IfSome o (λ d. (b : List ℕ) → columns 28 35 b ≡ columns 28 35 a → days_of (columns 29 35 b) ≡ Some d)
 days_read None a read = tt
 days_read (Some d) a read = λ b e. same_days d a b e (sym read)
-
-pub same_serial_front : (f : SerialFront) (a b : List ℕ) → columns 195 198 b ≡ columns 195 198 a → SpellsSerialFront f a → SpellsSerialFront f b
-same_serial_front f a b e s = record { value = ap digits_of e ∙ s.value; small = s.small }

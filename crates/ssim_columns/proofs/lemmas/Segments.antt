@@ -100,9 +100,6 @@ spread_parts d len =
     let all = all_placed (14 ∷ 13 ∷ 1 ∷ 166 ∷ 6 ∷ []) (replicate 14 32 ∷ slice_range d 0 13 ∷ (32 ∷ []) ∷ slice_range d 13 179 ∷ replicate 6 32 ∷ []) (refl, (one, (refl, (two, (refl, tt))))) in
     (sym all.1.0, sym all.1.1.1.0)
 
-pub tail_front : (d : List ℕ) → length d ≡ 179 → slice_range d 0 13 ≡ tail_columns 15 27 d
-tail_front d len = (spread_parts d len).0
-
 pub tail_part : (d : List ℕ) (first last : ℕ) → length d ≡ 179 → 29 ≤ first → first ≤ last → last ≤ 194 → slice_range d (first - 16) (last - 15) ≡ tail_columns first last d
 tail_part d first last len low le high =
     let i : 13 + (first - 1 - 28) ≡ first - 16 = omega arith in
