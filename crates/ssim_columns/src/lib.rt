@@ -55,7 +55,7 @@ pub use leg::leg_name::LegName;
 pub use leg::leg_parts::{LegEquipment, LegStations, LegTimes};
 pub use leg::name_text::{NameText, has_digits, name_text};
 pub use leg::period_text::{PeriodText, dates_text, end_text};
-pub use record_writers::{write_leg, write_segment};
+pub use record_writers::{LegMarks, write_leg, write_segment};
 pub use segment::segment_head::{SegmentHead, read_segment_head};
 pub use segment::segment_tail::SegmentTail;
 pub use text::array::{bytes_of, seven};

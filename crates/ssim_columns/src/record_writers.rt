@@ -14,29 +14,38 @@ use crate::text::array::bytes_of;
 use crate::text::number::six_digits;
 use crate::text::overlay::append;
 
-/// Writes a leg record over 200 bytes: of the texts of its name and dates, its frequency rate,
-/// columns, overflow and serial.
+/// The two columns of a leg record that a base leaves blank.
+#[derive(Clone, Copy)]
+pub struct LegMarks {
+    /// Column 36: the frequency rate.
+    pub rate: u8,
+    /// Column 128: the overflow of the itinerary variation.
+    pub overflow: u8,
+}
+
+/// Writes a leg record over 200 bytes: of the texts of its name and dates, its frequency rate and
+/// overflow, its columns and serial.
 pub fn write_leg(
     out: &mut [u8],
     name: &[u8; 12],
     dates: &[u8; 21],
-    rate: u8,
+    marks: LegMarks,
     columns: &LegColumns,
-    overflow: u8,
     serial: u32,
 )
     requires serial { serial < 1000000 }
     requires room { length out.old ≡ 200 }
-    ensures value { out.new ≡ leg_of_texts name.now dates.now rate columns.now overflow serial }
+    ensures value { out.new
+        ≡ leg_of_texts name.now dates.now marks.rate columns.now marks.overflow serial }
     ensures columns { AreLegColumns columns.now }
 {
     let at = append(out, 0, b"3");
     let at = append(out, at, name);
     let at = append(out, at, columns.text(SERVICE_TYPE));
     let at = append(out, at, dates);
-    let at = append(out, at, &[rate]);
+    let at = append(out, at, &[marks.rate]);
     let at = append(out, at, &bytes_of::<91>(columns.text(MIDDLE)));
-    let at = append(out, at, &[overflow]);
+    let at = append(out, at, &[marks.overflow]);
     let at = append(out, at, &bytes_of::<66>(columns.text(AFTER_OVERFLOW)));
     append(out, at, &six_digits(serial));
 }

@@ -9,7 +9,7 @@ ghost use Rattle.ssim_columns.specs.Segment.{IsTail, exported_segment, written_s
 use crate::leg::leg_columns::LegColumns;
 use crate::leg::leg_name::LegName;
 use crate::leg::period_text::PeriodText;
-use crate::record_writers::{write_leg, write_segment};
+use crate::record_writers::{LegMarks, write_leg, write_segment};
 use crate::segment::segment_tail::SegmentTail;
 use crate::text::number::{both_digits, four_digits};
 use crate::text::overlay::join;
@@ -81,7 +81,11 @@ impl NameText {
             (exported_leg self.now period.now columns.now serial) }
         ensures columns { AreLegColumns columns.now }
     {
-        write_leg(out, &self.text, period.text(), b' ', columns, b' ', serial);
+        let blank = LegMarks {
+            rate: b' ',
+            overflow: b' ',
+        };
+        write_leg(out, &self.text, period.text(), blank, columns, serial);
     }
 
     /// Writes the record of a segment that begins with this leg, which has these columns: with this

@@ -8,8 +8,8 @@ ghost use Rattle.ssim_columns.specs.clauses.Heads.{IsLegHead};
 use crate::record::segment::SegmentRecord;
 use ssim_columns::leg_fields::{DAYS, OVERFLOW, RATE};
 use ssim_columns::{
-    LegColumns, LegHead, LegName, SegmentTail, are_same_seven, carried_at, dates_text, has_digits,
-    name_text, own_columns_at, seven, write_leg,
+    LegColumns, LegHead, LegMarks, LegName, SegmentTail, are_same_seven, carried_at, dates_text,
+    has_digits, name_text, own_columns_at, seven, write_leg,
 };
 use ssim_values::{Airline, Day, DayMask, Flight, Period};
 use std::marker::Model;
@@ -289,13 +289,16 @@ impl LegRecord {
         ensures value { out.new ≡ written_leg self.now }
         ensures is_leg { IsLeg self.now }
     {
+        let marks = LegMarks {
+            rate: self.rate,
+            overflow: self.overflow,
+        };
         write_leg(
             out,
             &name_text(self.name),
             &dates_text(self.first, self.last, self.days),
-            self.rate,
+            marks,
             &self.columns,
-            self.overflow,
             self.serial,
         );
     }
