@@ -14,7 +14,7 @@ use Rattle.ssim_values.specs.Calendar.{slot}
 use Rattle.ssim_periods.specs.clauses.Days.{AddsOnly}
 use Rattle.ssim_periods.specs.Days.{each_day, changed_on}
 use Rattle.ssim_periods.specs.Pieces.{held_on}
-use Rattle.ssim_periods.specs.internal.Rows.{value_on, AreRows}
+use Rattle.ssim_periods.specs.internal.Rows.{AreRows}
 use Rattle.ssim_periods.specs.internal.Splits.{with_cut}
 use Rattle.ssim_periods.proofs.ApplyLemmas.{All-with_cut, with_cut-keeps, with_cut-own, outside-before, outside-after}
 use Rattle.ssim_periods.proofs.CutLemmas.{rising-with_cut}
@@ -221,7 +221,7 @@ free-changed s f g e days free same = changed-free s f g e 0 days (λ n h. free 
 pub free-kept : {V : Type 0} (s : ℕ → Bool) (f : V → V) (e : V) (days : List V) → ((n : ℕ) → s n ≡ true → slice_index_or days n e ≡ e) → f e ≡ e → changed_on s f 0 days ≡ days
 free-kept s f e days free same = free-changed s f (λ v. v) e days free same ∙ unchanged s 0 days
 
-pub index-seven : {V : Type 0} (e : V) (row : List V) (s : ℕ) → row ≡ e ∷ e ∷ e ∷ e ∷ e ∷ e ∷ e ∷ [] → slice_index_or row s e ≡ e
+index-seven : {V : Type 0} (e : V) (row : List V) (s : ℕ) → row ≡ e ∷ e ∷ e ∷ e ∷ e ∷ e ∷ e ∷ [] → slice_index_or row s e ≡ e
 index-seven {V} e row s is = ap (λ r. slice_index_or r s e) is ∙ at s
   where
     at : (s : ℕ) → slice_index_or (e ∷ e ∷ e ∷ e ∷ e ∷ e ∷ e ∷ []) s e ≡ e
@@ -237,9 +237,6 @@ index-seven {V} e row s is = ap (λ r. slice_index_or r s e) is ∙ at s
 -- a value of a week without values
 pub index-week : {V : Type 0} (e x : V) (row : List V) (s : ℕ) → row ≡ empty_week e → s < 7 → slice_index_or row s x ≡ e
 index-week e x row s is lt = index-default row s x e (let seven = ap length is in omega arith) ∙ index-seven e row s is
-
-pub each_day-seven : {V : Type 0} (e : V) (row : List V) → row ≡ e ∷ e ∷ e ∷ e ∷ e ∷ e ∷ e ∷ [] → each_day (value_on e row [] []) ≡ each_day (λ _. e)
-each_day-seven e row is = each_day-same (value_on e row [] []) (λ _. e) (λ n l. index-seven e row (slot n) is)
 
 pub no-rows : {V : Type 0} (row : List V) → length row ≡ 7 → AreRows row [] []
 no-rows row week = record {

@@ -1,5 +1,5 @@
 -- Days of a weekday, counted by arithmetic.
-use Rattle.std.proofs.Common.{subst, ◌≡◌, ℕ, zero, suc, ◌+◌, ◌-◌, ◌*◌, ◌%◌, ◌<◌, ◌≤◌, Bool, true, false, ◌&&◌, if◌then◌else◌, nat_eq, nat_lt, List, [], ◌∷◌, map, length, refl, ap, ◌∙◌, sym, ◌≢◌, slice_index_or, slice_set, add-one, get_or-set_same, get_or-set_other, arith, ◌⊎◌, inl, inr}
+use Rattle.std.proofs.Common.{subst, ◌≡◌, ℕ, zero, suc, ◌+◌, ◌-◌, ◌*◌, ◌<◌, ◌≤◌, Bool, true, false, ◌&&◌, if◌then◌else◌, nat_eq, nat_lt, List, [], ◌∷◌, map, length, refl, ap, ◌∙◌, sym, ◌≢◌, slice_index_or, slice_set, add-one, get_or-set_same, get_or-set_other, arith, ◌⊎◌, inl, inr}
 use Rattle.std.specs.List.{range_with_len}
 use Rattle.std.proofs.lemmas.Bool.Decides.{nat_tests}
 use Rattle.ssim_periods.specs.Calendar.{day_count}
@@ -117,7 +117,7 @@ pub weigh-le : (t : ℕ → Bool) (w x : ℕ) → x ≤ 36525 → weigh t w x �
 weigh-le t zero x h = omega arith
 weigh-le t (suc w) x h = let ih = weigh-le t w x h in elim (t w) as (λ b. weigh t w x + (if b then below w x else 0) ≤ suc w * 36531) [ true ↦ omega arith | false ↦ omega arith ]
 
-weigh-more : (t : ℕ → Bool) (w x : ℕ) → weigh t (w + 1) x ≡ weigh t w x + (if t w then below w x else 0)
+pub weigh-more : (t : ℕ → Bool) (w x : ℕ) → weigh t (w + 1) x ≡ weigh t w x + (if t w then below w x else 0)
 weigh-more t w x = rw add-one refl
 
 -- a weekday in the mask adds its days to its class, and to no other

@@ -3,7 +3,7 @@
 use Rattle.std.proofs.Common.{◌≡◌, ◌≢◌, ℕ, zero, suc, ◌+◌, ◌<◌, ◌≤◌, ◌&&◌, ◌||◌, Bool, true, false, not, if◌then◌else◌, nat_eq, nat_le, Option, Some, None, List, [], ◌∷◌, length, map, drop, slice_index_or, slice_set, get_or-set_same, get_or-set_other, refl, ap, subst, sym, ◌∙◌, arith}
 use Rattle.std.proofs.Math.Path.{fun_ext}
 use Rattle.std.proofs.lemmas.Bool.Decides.{nat_tests}
-use Rattle.std.proofs.lemmas.List.{drop_more}
+use Rattle.std.proofs.lemmas.List.{drop_more, length-set}
 use Rattle.std.proofs.Math.Bool.{and-false}
 use Rattle.std.specs.List.{list_any}
 use Rattle.ssim_values.specs.Period.{DayRange}
@@ -176,13 +176,6 @@ no-common p q none = sym (tally-none (λ n. holds q n && holds p n) 0 day_count 
     by n true e = none n e
     by n false e = refl
 
--- the days of a period, counted under one class
-pub days-of-period : (p : DayRange) (counts : List ℕ) → counts ≡ counts_on {V = ℕ} (holds p) (λ _. 0) (each_day (λ _. 0)) → slice_index_or counts 0 0 ≡ tally (holds p) 0 day_count
-days-of-period p counts is =
-    ap (λ xs. slice_index_or xs 0 0) is
-    ∙ count_on-each_day {V = ℕ} (holds p) (λ _. 0) (λ _. 0) 0
-    ∙ tally-same (λ n. holds p n && nat_eq 0 0) (holds p) 0 day_count (λ n a l. and-true (holds p n))
-
 -- ---- no entry yet
 
 zeros-at : (k : ℕ) → slice_index_or {A = ℕ} (0 ∷ 0 ∷ 0 ∷ 0 ∷ 0 ∷ []) k 0 ≡ 0
@@ -200,6 +193,23 @@ pub counted-none : {V : Type 0} (s : ℕ → Bool) (test : V → Bool) (xs : Lis
 counted-none s test xs k = zeros-at k ∙ found-none s test xs
 
 -- ---- counted under one class
+
+abbrev zeros : List ℕ
+zeros = 0 ∷ 0 ∷ 0 ∷ 0 ∷ 0 ∷ []
+
+-- the days of a period, if all are of one class
+pub counts-of-period : (p : DayRange) (class days : ℕ) (counts : List ℕ) → class < 5 → days ≡ tally (holds p) 0 day_count → counts ≡ slice_set zeros class days → counts ≡ counts_on {V = ℕ} (holds p) (λ _. class) (each_day (λ _. 0))
+counts-of-period p class days counts small all is =
+    let more : days ≡ slice_index_or zeros class 0 + days = let none = zeros-at class in omega arith in
+    of_five counts (λ k. count_on {V = ℕ} (holds p) (λ _. class) k 0 (each_day (λ _. 0))) (ap length is ∙ length-set zeros class days) (λ k h.
+    counted-more zeros counts class days (λ _. 0) refl small (is ∙ ap (slice_set zeros class) more) (λ j g. zeros-at j) k h
+    ∙ from-zero (if nat_eq class k then days else 0)
+    ∙ ap (λ d. if nat_eq class k then d else 0) all
+    ∙ sym (tally-if (holds p) (nat_eq class k) 0 day_count)
+    ∙ sym (count_on-each_day {V = ℕ} (holds p) (λ _. class) (λ _. 0) k))
+  where
+    from-zero : (n : ℕ) → 0 + n ≡ n
+    from-zero n = omega arith
 
 count-alike : {V W : Type 0} (s : ℕ → Bool) (f : V → ℕ) (g : W → ℕ) (k : ℕ) (d : V) (e : W) (a : ℕ) (xs : List V) (ys : List W) → length xs ≡ length ys → ((n : ℕ) → n < length xs → s (a + n) ≡ true → f (slice_index_or xs n d) ≡ g (slice_index_or ys n e)) → count_on s f k a xs ≡ count_on s g k a ys
 count-alike s f g k d e a [] [] l h = refl

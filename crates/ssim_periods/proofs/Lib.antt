@@ -22,6 +22,7 @@ pub mod NumberLemmas
 pub mod NumberPeriods
 pub mod PartLemmas
 pub mod PartsLemmas
+pub mod PeriodDays
 pub mod PieceLaw
 pub mod PieceOrder
 pub mod PieceRows

@@ -1,6 +1,6 @@
 -- The lists of the numbers' periods: range after range they get the days of their numbers, weekday
 -- after weekday.
-use Rattle.std.proofs.Common.{◌≡◌, ◌≢◌, ℕ, zero, suc, ◌+◌, ◌-◌, ◌<◌, ◌≤◌, ◌&&◌, ◌||◌, Bool, true, false, nat_eq, nat_le, nat_lt, Option, Some, None, List, [], ◌∷◌, ◌++◌, length, map, slice_get, slice_index_or, slice_set, replicate, refl, ap, subst, sym, ◌∙◌, arith, ◌⊎◌, inl, inr, option_map, eqb-true, eq-eqb}
+use Rattle.std.proofs.Common.{◌≡◌, ℕ, zero, suc, ◌+◌, ◌<◌, ◌≤◌, ◌&&◌, ◌||◌, Bool, true, false, nat_eq, nat_le, nat_lt, Some, List, [], ◌∷◌, length, map, slice_get, slice_index_or, slice_set, replicate, refl, ap, sym, ◌∙◌, arith, ◌⊎◌, inl, inr, option_map, eqb-true, eq-eqb}
 use Rattle.std.proofs.Math.Bool.{or-false}
 use Rattle.std.proofs.lemmas.Bool.Decides.{nat_tests}
 use Rattle.std.proofs.lemmas.Option.{slice_get-map, slice_get_read, slice_get_within}

@@ -20,6 +20,7 @@
 //!   of a value are the one division of its days in the words of `IsNextPeriod`. By `pieces_hold_each_day_once`,
 //!   exactly one piece holds each day, the piece with the value of that day; if that value is
 //!   empty, none does.
+//! - `number_of_days` counts the days that a period holds, by arithmetic.
 //! - There are few `cuts`: `new` has none, a copy has the cuts of its source, and `apply`,
 //!   `replace` and `replace_each` add at most the first day of each period and the day after its
 //!   last.
@@ -33,6 +34,7 @@ mod common_days;
 mod cover;
 mod distinct_values;
 mod numbers;
+mod period_days;
 mod periods;
 mod range_rows;
 mod rows;
@@ -42,6 +44,7 @@ mod weekday_bits;
 
 pub use common_days::{are_apart, meets};
 pub use cover::union::union;
+pub use period_days::number_of_days;
 pub use periods::Periods;
 pub use periods::pieces::{
     a_cover_is_the_division, covers_hold_each_day_once, pieces_hold_each_day_once, worked_pieces,

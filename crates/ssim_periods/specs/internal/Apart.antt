@@ -1,10 +1,10 @@
 -- Periods with values as a list, of which no two hold a common day.
-use Rattle.std.specs.Prelude.{◌≡◌, ◌≢◌, ℕ, ◌+◌, ◌-◌, ◌%◌, ◌≤◌, ◌&&◌, Bool, false, nat_lt, if◌then◌else◌, List, [], ◌∷◌, ◌++◌, length, map, slice_index_or}
+use Rattle.std.specs.Prelude.{◌≡◌, ◌≢◌, ℕ, ◌+◌, ◌≤◌, ◌&&◌, Bool, false, nat_lt, if◌then◌else◌, List, [], ◌∷◌, ◌++◌, length, map, slice_index_or}
 use Rattle.std.specs.List.{All, Contains, list_any}
 use Rattle.std.specs.List.Sorted.{IsStrictlyIncreasing}
 use Rattle.ssim_values.specs.Period.{DayRange}
 use Rattle.ssim_periods.specs.Calendar.{day_count, holds}
-use Rattle.ssim_values.specs.Calendar.{first_on, slot}
+use Rattle.ssim_values.specs.Calendar.{first_on}
 use Rattle.ssim_periods.specs.Cover.{cover}
 use Rattle.ssim_periods.specs.clauses.Days.{Seen, changed_by_each, ends_of}
 use Rattle.ssim_periods.specs.Days.{each_day}

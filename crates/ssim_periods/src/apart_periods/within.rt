@@ -12,22 +12,13 @@ ghost use Rattle.ssim_periods.specs.internal.Parts.{added_of, added_parts, any_v
 ghost use Rattle.ssim_periods.specs.internal.Parts.{first_part as the_first_part};
 ghost use Rattle.ssim_periods.specs.internal.Splits.{with_cut};
 
-use crate::apart_periods::entries::SetTo;
 use crate::apart_periods::parts::{common_part, first_part, second_part, third_part};
 use crate::apart_periods::spaced_days::SpacedDays;
 use crate::common_days::meets;
-use crate::numbers::NONE;
-use crate::range_rows::count::counts_of;
+use crate::period_days::number_of_days;
 use crate::{Change, Value};
 use ssim_values::{Memory, Period};
 use std::alloc::Global;
-
-// The number of days that a period holds.
-fn days_in(period: &Period) -> u32
-    ensures { result ≡ tally (holds period.now) 0 day_count }
-{
-    counts_of(period, &SetTo { value: &NONE }, &NONE)[0]
-}
 
 // The number of days that two periods have in common.
 fn common_days(own: &Period, other: &Period) -> u32
@@ -38,7 +29,7 @@ fn common_days(own: &Period, other: &Period) -> u32
         return 0;
     }
     match common_part(own, other) {
-        Some(common) => days_in(&common),
+        Some(common) => number_of_days(&common),
         None => 0,
     }
 }
@@ -87,7 +78,7 @@ pub(crate) fn counts_within<V: Value, C: Change<V>>(
         → held_on entries.now n ≢ [] }
 {
     let (mut counts, held) = count_held(entries, period, change);
-    let free = days_in(period) - held;
+    let free = number_of_days(period) - held;
     if free > 0 {
         let empty = V::empty();
         counts[change.class(&empty) as usize] += free;

@@ -1,5 +1,5 @@
 //! Days counted by arithmetic.
-ghost use Rattle.std.specs.Prelude.{◌≡◌, ℕ, ◌+◌, ◌-◌, ◌<◌, ◌≤◌, [], length, slice_index};
+ghost use Rattle.std.specs.Prelude.{◌≡◌, ℕ, ◌+◌, ◌-◌, ◌<◌, ◌≤◌, length, slice_index};
 ghost use Rattle.std.specs.List.{All};
 ghost use Rattle.ssim_periods.specs.Calendar.{holds};
 ghost use Rattle.ssim_values.specs.Calendar.{slot};
@@ -7,32 +7,10 @@ ghost use Rattle.ssim_periods.specs.Days.{counts_on, each_day};
 ghost use Rattle.ssim_periods.specs.internal.Count.{tally, is_counted, is_of_class};
 ghost use Rattle.ssim_periods.specs.internal.Rows.{AreRows};
 
-use crate::numbers::{NONE, ValueNumber};
+use crate::period_days::number_of_days;
 use crate::rows::{has_days, place_of, range_end, row_at};
 use crate::{Change, Value};
-use ssim_values::{Memory, Period, days_before};
-use std::alloc::Global;
-
-// The change of one value, as a change that finds the class of this value on each day.
-#[derive(Drop)]
-struct ClassOf<'a, V: Value, C: Change<V>> {
-    change: &'a C,
-    value: &'a V,
-}
-
-impl<'a, V: Value, C: Change<V>> Change<ValueNumber> for ClassOf<'a, V, C> {
-    ghost outcome = { λ _ old. old };
-
-    ghost class_of = { λ found _. C.class_of found.change.now found.value.now };
-
-    fn after(&self, _alloc: Global, old: &ValueNumber) -> Result<ValueNumber, Memory> {
-        Ok(*old)
-    }
-
-    fn class(&self, _old: &ValueNumber) -> u8 {
-        self.change.class(self.value)
-    }
-}
+use ssim_values::{Period, days_before};
 
 // Adds to the count of each class the days of a range whose weekday is in the mask and whose old
 // value is of that class.
@@ -101,25 +79,11 @@ pub(crate) fn class_counts<V: Value, C: Change<V>>(
 }
 
 // How many days of a period a change finds of each class, if all of them have this value.
-pub(crate) fn counts_of<'a, V: Value, C: Change<V>>(
-    period: &Period,
-    change: &'a C,
-    value: &'a V,
-) -> [u32; 5]
+pub(crate) fn counts_of<V: Value, C: Change<V>>(period: &Period, change: &C, value: &V) -> [u32; 5]
     ensures { result ≡ counts_on {V = ℕ} (holds period.now) (λ _. C.class_of change.now value.now)
         (each_day (λ _. 0)) }
 {
-    let first = period.first().number() as u32;
-    let last = period.last().number() as u32;
-    let mask = period.mask().days();
-    let week = [NONE; 7];
-    let found = ClassOf { change, value };
-    class_counts(&week, &[], no_rows(), first, last, &mask, &found)
-}
-
-// The rows of no range.
-fn no_rows<'a>() -> &'a [[ValueNumber; 7]]
-    ensures { result.now ≡ [] }
-{
-    &[]
+    let mut counts = [0; 5];
+    counts[change.class(value) as usize] = number_of_days(period);
+    counts
 }

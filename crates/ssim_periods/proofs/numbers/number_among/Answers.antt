@@ -1,7 +1,6 @@
 -- A value with an index is known, and one without is added at the end.
-use Rattle.std.proofs.Common.{◌≡◌, ◌∷◌, ◌++◌, [], Some, ◌+◌, ◌||◌, false, if◌then◌else◌, length, slice_get, ap, sym, ◌∙◌, arith, rules, refl}
+use Rattle.std.proofs.Common.{◌∷◌, ◌++◌, [], ◌+◌, ◌||◌, false, if◌then◌else◌, length, ap, sym, ◌∙◌}
 use Rattle.std.proofs.lemmas.List.{length-map}
-use Rattle.ssim_periods.specs.internal.Gather.{numbered}
 use Rattle.ssim_periods.proofs.IndexLemmas.{index_of-get, index_of-none}
 use Rattle.ssim_periods.proofs.NumberLemmas.{gathered-numbered, number-index, number-pushed}
 use Rattle.ssim_periods.proofs.ListPieces.{not-alike}

@@ -1,4 +1,4 @@
-use Rattle.std.proofs.Common.{◌≡◌, Some, map, length, sym, arith, rules}
+use Rattle.std.proofs.Common.{◌≡◌, Some, sym, rules}
 use Rattle.ssim_periods.specs.internal.Gather.{numbered}
 use Rattle.ssim_periods.proofs.NumberLemmas.{gathered-numbered}
 use Rattle.ssim_periods.proofs.numbers.number_of.Goals as goal

@@ -1,4 +1,4 @@
-use Rattle.std.proofs.Common.{◌<◌, length, map, rules, arith}
+use Rattle.std.proofs.Common.{◌<◌, length, rules, arith}
 use Rattle.ssim_periods.proofs.NumberLemmas.{row-next, row-numbered}
 use Rattle.ssim_periods.proofs.numbers.number_row.Goals as goal
 

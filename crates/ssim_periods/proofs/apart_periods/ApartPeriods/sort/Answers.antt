@@ -1,5 +1,5 @@
 -- In any order the periods hold the same days with the same values.
-use Rattle.std.proofs.Common.{ap, ◌∙◌}
+use Rattle.std.proofs.Common.{◌∙◌}
 use Rattle.ssim_periods.proofs.ListPieces.{apart-moved, seen-moved}
 use Rattle.ssim_periods.proofs.apart_periods.ApartPeriods.sort.Goals as goal
 

@@ -1,5 +1,5 @@
 -- The map has the index of each value.
-use Rattle.std.proofs.Common.{◌≡◌, ◌<◌, ◌^◌, ℕ, Option, Some, None, IfSome, length, map, refl, ap, sym, ◌∙◌, arith, rules}
+use Rattle.std.proofs.Common.{◌≡◌, ◌<◌, ◌^◌, ℕ, Option, Some, None, IfSome, map, refl, ap, sym, ◌∙◌, arith, rules}
 use Rattle.std.proofs.lemmas.List.{length-map}
 use Rattle.ssim_periods.proofs.IndexLemmas.{index_of-within}
 use Rattle.ssim_periods.specs.internal.Gather.{index_of}

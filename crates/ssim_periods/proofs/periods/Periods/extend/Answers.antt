@@ -1,5 +1,5 @@
 -- What is seen of the values is what is seen of their form.
-use Rattle.std.proofs.Common.{◌≡◌, ◌+◌, ℕ, OnOk, ap, subst, sym, ◌∙◌}
+use Rattle.std.proofs.Common.{◌≡◌, ◌+◌, OnOk, ap, subst, sym, ◌∙◌}
 use Rattle.ssim_periods.specs.clauses.Days.{AddsOnly}
 use Rattle.ssim_periods.specs.internal.Forms.{seen}
 use Rattle.ssim_periods.proofs.periods.Periods.extend.Goals.{in-Apart+else-is_outside, in_default}

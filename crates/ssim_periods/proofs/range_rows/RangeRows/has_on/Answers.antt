@@ -1,5 +1,5 @@
-use Rattle.std.proofs.Common.{◌+◌, ◌-◌, ◌%◌, length, sym, arith, inl, inr}
-use Rattle.ssim_values.specs.Calendar.{first_on, slot}
+use Rattle.std.proofs.Common.{length, sym, arith, inl, inr}
+use Rattle.ssim_values.specs.Calendar.{first_on}
 use Rattle.ssim_periods.proofs.CountLemmas.{le_or_lt}
 use Rattle.ssim_periods.proofs.PieceLaw.{has_value-past}
 use Rattle.ssim_periods.proofs.range_rows.RangeRows.has_on.Goals as goal

@@ -1,12 +1,11 @@
 -- The covers of the values' own periods, sorted, are the pieces of the definition.
-use Rattle.std.proofs.Common.{◌≡◌, ◌+◌, ◌<◌, ◌≤◌, List, ℕ, Some, [], ◌∷◌, ◌++◌, ◌&&◌, append-nil, false, nat_eq, nat_lt, length, map, drop, append_assoc, slice_get, slice_index_or, option_map, refl, ap, subst, sym, ◌∙◌, arith, rules}
+use Rattle.std.proofs.Common.{◌≡◌, ◌+◌, ◌<◌, List, ℕ, Some, [], ◌∷◌, ◌++◌, ◌&&◌, append-nil, false, nat_eq, nat_lt, length, map, drop, append_assoc, slice_index_or, option_map, refl, ap, subst, sym, ◌∙◌, arith, rules}
 use Rattle.std.specs.List.{flat_map}
 use Rattle.std.proofs.lemmas.List.Sorted.{IsNonDecreasingBy-from_sort_by_key}
 use Rattle.std.proofs.lemmas.Bool.Decides.{nat_tests}
 use Rattle.std.proofs.lemmas.Option.{slice_get-map, slice_get_read}
-use Rattle.ssim_values.specs.Period.{DayRange}
 use Rattle.ssim_periods.specs.Days.{each_day}
-use Rattle.ssim_periods.specs.internal.Apart.{held_cover, is_held}
+use Rattle.ssim_periods.specs.internal.Apart.{is_held}
 use Rattle.ssim_periods.specs.internal.Gather.{gathered, numbered}
 use Rattle.ssim_periods.specs.Pieces.{pieces_with}
 use Rattle.ssim_periods.specs.internal.Rows.{value_on}

@@ -1,5 +1,5 @@
 -- Each weekday is one more, and seven of them are all.
-use Rattle.std.proofs.Common.{◌≡◌, ◌+◌, ◌<◌, ◌≤◌, length, map, ap, subst, sym, ◌∙◌, arith, rules, slice_index_or}
+use Rattle.std.proofs.Common.{◌≡◌, ◌+◌, ◌<◌, length, map, subst, arith, slice_index_or}
 use Rattle.ssim_periods.specs.internal.Numbers.{is_numbered_on, AddsDays}
 use Rattle.ssim_periods.proofs.NumberPeriods.{adds-more, is_numbered_before, one-more, whole-week}
 use Rattle.ssim_periods.proofs.RowLemmas.{index-default}

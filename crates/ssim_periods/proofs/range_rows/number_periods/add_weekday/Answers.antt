@@ -1,5 +1,5 @@
 -- The list of the number gets the days, and the others keep theirs.
-use Rattle.std.proofs.Common.{◌≡◌, ℕ, ◌+◌, ◌-◌, ◌<◌, ◌≤◌, ◌&&◌, ◌||◌, nat_eq, ap, ◌∙◌, arith, rules, length, sym}
+use Rattle.std.proofs.Common.{◌≡◌, ◌+◌, ◌-◌, ◌<◌, ◌&&◌, ◌||◌, nat_eq, ap, ◌∙◌, arith, length}
 use Rattle.std.proofs.lemmas.Result.{on_ok_weaker}
 use Rattle.ssim_periods.specs.internal.Apart.{is_held}
 use Rattle.ssim_values.specs.Calendar.{slot}

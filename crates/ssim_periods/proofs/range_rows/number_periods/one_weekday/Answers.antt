@@ -1,5 +1,5 @@
 -- The days are those of the one weekday in the mask.
-use Rattle.std.proofs.Common.{◌≡◌, ℕ, ◌+◌, ◌<◌, ◌≤◌, ◌&&◌, List, [], ◌∷◌, Bool, true, false, nat_le, nat_lt, slice_index_or, slice_set, ap, ◌∙◌, arith, rules}
+use Rattle.std.proofs.Common.{◌+◌, ◌&&◌, List, [], ◌∷◌, Bool, true, false, nat_le, nat_lt, slice_index_or, slice_set, ap, ◌∙◌}
 use Rattle.ssim_values.specs.Calendar.{slot}
 use Rattle.ssim_periods.proofs.NumberPeriods.{le-lt, one-on}
 use Rattle.ssim_periods.proofs.range_rows.number_periods.one_weekday.Goals as goal

@@ -1,10 +1,10 @@
 -- Each range reaches to the next cut, and its days have the numbers of its row.
-use Rattle.std.proofs.Common.{◌≡◌, ◌+◌, ◌-◌, ◌<◌, ◌≤◌, ℕ, ◌∷◌, [], List, Some, length, map, replicate, slice_get, slice_index_or, ap, subst, sym, ◌∙◌, arith, rules}
+use Rattle.std.proofs.Common.{◌≡◌, ◌∷◌, length, map, slice_index_or, ap, sym, ◌∙◌, arith, rules}
 use Rattle.std.proofs.lemmas.List.{length-map}
 use Rattle.ssim_values.specs.Calendar.{slot}
 use Rattle.ssim_periods.specs.internal.Rows.{place}
 use Rattle.ssim_periods.proofs.CountLemmas.{Reaches, reaches}
-use Rattle.ssim_periods.proofs.DayLemmas.{index-each_day, length-each_day}
+use Rattle.ssim_periods.proofs.DayLemmas.{index-each_day}
 use Rattle.ssim_periods.proofs.NumberPeriods.{have-more}
 use Rattle.ssim_periods.proofs.RowLemmas.{place-le, row_on-place}
 use Rattle.ssim_periods.proofs.range_rows.number_periods.RangeRows+ValueNumber.periods_of_numbers.Goals.{After-range_end-next, After-row_at}
