@@ -1,111 +1,147 @@
--- The dates of pieces: in parts of the calendar, and of the pieces that meet a part alone.
-use Rattle.std.proofs.Common.{◌≡◌, ◌∙◌, ℕ, ◌+◌, ◌*◌, ◌≤◌, ◌<◌, Bool, true, false, cond, List, [], ◌∷◌}
-use Rattle.std.proofs.Common.{◌++◌, map, filter, refl, sym, ap, ap₂, append_assoc, true≢false, arith}
+-- The dates of pieces: those of each piece, by day.
+use Rattle.std.proofs.Common.{◌≡◌, ◌∙◌, ◌⊎◌, inl, inr, ℕ, zero, suc, ◌+◌, ◌-◌, ◌≤◌, ◌<◌, ◌==◌, Bool, true, false, cond}
+use Rattle.std.proofs.Common.{List, [], ◌∷◌, ◌++◌, map, filter, Bor, refl, sym, ap, ap₂, subst, append-nil, arith}
 use Rattle.std.proofs.lemmas.Bool.Decides.{nat_tests}
-use Rattle.std.specs.Borrow.{Bor}
-use Rattle.std.specs.List.{flat_map, range_with_len}
+use Rattle.std.proofs.lemmas.List.{map-append}
+use Rattle.std.proofs.lemmas.List.Elements.{filter-append}
+use Rattle.std.specs.List.{AllByRecursion as Every, flat_map, range_with_len}
 use Rattle.ssim_values.specs.Period.{DayRange}
 use Rattle.ssim_periods.specs.Calendar.{day_count, holds}
 use Rattle.ssim_periods.specs.Pieces.{held_on}
+use Rattle.ssim_periods.proofs.DayLemmas.{day_count-is}
 use Rattle.ssim_listing.specs.Dates.{dates_of, dates_on}
-use Rattle.ssim_listing.specs.internal.FlightDates.{meets_days}
-use Rattle.ssim_listing.proofs.Ranges.{same_in, split_at}
+use Rattle.ssim_listing.specs.internal.FlightDates.{dates_by_piece, seen_dates}
+use Rattle.ssim_listing.proofs.Every.{every_append, every_made}
+use Rattle.ssim_listing.proofs.Ranges.{same_in, window}
+use Rattle.ssim_listing.proofs.Ranked.{of_rank}
 
--- ---- the pieces that hold a day
+-- ---- what is kept of a list that a function makes
 
-meets : (period : DayRange) (from n : ℕ) → from ≤ n → n < from + 75 → holds period n ≡ true → meets_days from period ≡ true
-meets period from n low high e = grind (arith, nat_tests)
+filter_made : {X Y : Type 0} (p : Y → Bool) (f : X → List Y) (xs : List X) → filter p (flat_map f xs) ≡ flat_map (λ x. filter p (f x)) xs
+filter_made p f [] = refl
+filter_made p f (x ∷ xs) = filter-append p (f x) (flat_map f xs) ∙ ap (λ ys. filter p (f x) ++ ys) (filter_made p f xs)
 
-module _ {V : Type 0} where
-  pub held_append : (pieces others : List (DayRange × V)) (n : ℕ) → held_on (pieces ++ others) n ≡ held_on pieces n ++ held_on others n
-  held_append [] others n = refl
-  held_append (piece ∷ pieces) others n = by (holds piece.0 n) (held_append pieces others n)
-    where
-      by : (b : Bool) → held_on (pieces ++ others) n ≡ held_on pieces n ++ held_on others n
-          → cond b (piece.1 ∷ held_on (pieces ++ others) n) (held_on (pieces ++ others) n) ≡ cond b (piece.1 ∷ held_on pieces n) (held_on pieces n) ++ held_on others n
-      by true later = ap (λ (xs : List V). piece.1 ∷ xs) later
-      by false later = later
+map_made : {X Y Z : Type 0} (g : Y → Z) (f : X → List Y) (xs : List X) → map g (flat_map f xs) ≡ flat_map (λ x. map g (f x)) xs
+map_made g f [] = refl
+map_made g f (x ∷ xs) = map-append g (f x) (flat_map f xs) ∙ ap (λ ys. map g (f x) ++ ys) (map_made g f xs)
 
-  -- one more piece, if it holds the day
-  pub held_more : (before all : List (DayRange × V)) (piece : DayRange × V) (n : ℕ) (b : Bool) → holds piece.0 n ≡ b → all ≡ before ++ piece ∷ [] → held_on all n ≡ held_on before n ++ cond b (piece.1 ∷ []) []
-  held_more before all piece n b is more =
-      ap (λ (ps : List (DayRange × V)). held_on ps n) more
-      ∙ (held_append before (piece ∷ []) n ∙ ap (λ (t : Bool). held_on before n ++ cond t (piece.1 ∷ []) []) is)
+-- ---- the days of a period
 
-  -- pieces that pass the test, which all pieces that hold the day pass
-  held_filtered : (test : DayRange × V → Bool) (pieces : List (DayRange × V)) (n : ℕ) → ((piece : DayRange × V) → holds piece.0 n ≡ true → test piece ≡ true)
-      → held_on (filter test pieces) n ≡ held_on pieces n
-  held_filtered test [] n h = refl
-  held_filtered test (piece ∷ pieces) n h = by (test piece) refl (holds piece.0 n) refl (held_filtered test pieces n h)
-    where
-      by : (t : Bool) → test piece ≡ t → (b : Bool) → holds piece.0 n ≡ b → held_on (filter test pieces) n ≡ held_on pieces n
-          → held_on (cond t (piece ∷ filter test pieces) (filter test pieces)) n ≡ cond b (piece.1 ∷ held_on pieces n) (held_on pieces n)
-      by true passes b is later =
-          ap (λ (t : Bool). cond t (piece.1 ∷ held_on (filter test pieces) n) (held_on (filter test pieces) n)) is
-          ∙ ap (λ (xs : List V). cond b (piece.1 ∷ xs) xs) later
-      by false fails true is later = absurd (true≢false (sym (h piece is) ∙ fails))
-      by false fails false is later = later
+not_between : (period : DayRange) (n : ℕ) → (n < period.first) ⊎ (period.last + 1 ≤ n) → holds period n ≡ false
+not_between period n (inl early) = grind (arith, nat_tests)
+not_between period n (inr late) = grind (arith, nat_tests)
 
-  -- a day of a part of the calendar is held by those pieces that meet the part
-  pub held_near : (pieces : List (DayRange × V)) (from n : ℕ) → from ≤ n → n < from + 75 → held_on (filter (λ piece. meets_days from piece.0) pieces) n ≡ held_on pieces n
-  held_near pieces from n low high = held_filtered (λ piece. meets_days from piece.0) pieces n (λ piece e. meets piece.0 from n low high e)
+other : (n k : ℕ) → (k < n) ⊎ (n + 1 ≤ k) → (k == n) ≡ false
+other n k (inl early) = grind (arith, nat_tests)
+other n k (inr late) = grind (arith, nat_tests)
+
+itself : (n : ℕ) → (n == n) ≡ true
+itself n = grind (arith, nat_tests)
 
 -- ---- the dates of pieces
 
 abbrev dates_from : {V : Type 0} → ℕ → List V → List (ℕ × V)
 dates_from n = map (λ value. (n, value))
 
+-- those of some dates that are on a day
+abbrev on : {V : Type 0} → ℕ → List (ℕ × V) → List (ℕ × V)
+on n = filter (λ date. date.0 == n)
+
 module _ {V : Type 0} where
-  -- the dates of the parts of the calendar so far, and then of one more
-  pub one_more_part : (pieces : List (DayRange × V)) (now next : List (ℕ × V)) (part : ℕ)
-      → now ≡ flat_map (dates_on pieces) (range_with_len 0 (75 * part))
-      → next ≡ now ++ flat_map (dates_on (filter (λ piece. meets_days (75 * part) piece.0) pieces)) (range_with_len (75 * part) 75)
-      → next ≡ flat_map (dates_on pieces) (range_with_len 0 (75 * (part + 1)))
-  one_more_part pieces now next part so_far is =
-      is ∙ (ap₂ (λ (xs ys : List (ℕ × V)). xs ++ ys) so_far
-      (same_in (dates_on (filter (λ piece. meets_days (75 * part) piece.0) pieces)) (dates_on pieces) (75 * part) 75
-      (λ n low high. ap (dates_from n) (held_near pieces (75 * part) n low high)))
-      ∙ sym (split_at (dates_on pieces) 0 (75 * part) 75 (75 * (part + 1)) (75 * part) (next_part part) (zero_plus (75 * part))))
+  not_held : (piece : DayRange × V) (n : ℕ) → holds piece.0 n ≡ false → dates_on (piece ∷ []) n ≡ []
+  not_held piece n e = ap (λ (b : Bool). dates_from n (cond b (piece.1 ∷ []) [])) e
+
+  -- the dates of a piece are between its first and its last day
+  pub piece_dates : (piece : DayRange × V) → piece.0.last < 36525
+      → flat_map (dates_on (piece ∷ [])) (range_with_len piece.0.first (piece.0.last + 1 - piece.0.first)) ≡ dates_of (piece ∷ [])
+  piece_dates piece within =
+      let all = day_count-is in
+      sym (window (dates_on (piece ∷ [])) piece.0.first (piece.0.last + 1) day_count (omega arith)
+      (λ n below outside. not_held piece n (not_between piece.0 n outside)))
+
+  -- the dates of pieces on a day, by the first piece
+  first_piece : (piece : DayRange × V) (pieces : List (DayRange × V)) (n : ℕ) → dates_on (piece ∷ pieces) n ≡ dates_on (piece ∷ []) n ++ dates_on pieces n
+  first_piece piece pieces n = by (holds piece.0 n)
     where
-      zero_plus : (n : ℕ) → 0 + n ≡ n
-      zero_plus n = omega arith
+      by : (b : Bool) → dates_from n (cond b (piece.1 ∷ held_on pieces n) (held_on pieces n)) ≡ dates_from n (cond b (piece.1 ∷ []) []) ++ dates_from n (held_on pieces n)
+      by true = refl
+      by false = refl
 
-      next_part : (part : ℕ) → 75 * part + 75 ≡ 75 * (part + 1)
-      next_part part = omega arith
-
-  -- the dates of all parts
-  pub all_parts : (pieces : List (DayRange × V)) (dates : List (ℕ × V)) (part : ℕ) → part ≡ 487
-      → dates ≡ flat_map (dates_on pieces) (range_with_len 0 (75 * part)) → dates ≡ dates_of pieces
-  unfolding day_count
-  all_parts pieces dates part all is = is ∙ ap (λ (k : ℕ). flat_map (dates_on pieces) (range_with_len 0 (75 * k))) all
-
-  -- the dates of the pieces so far on a day, and then of one more
-  one_more_piece : (before : List (DayRange × V)) (piece : DayRange × V) (n : ℕ) (b : Bool) → holds piece.0 n ≡ b
-      → dates_on (before ++ piece ∷ []) n ≡ dates_on before n ++ cond b ((n, piece.1) ∷ []) []
-  one_more_piece before piece n b is =
-      ap (dates_from n) (held_more before (before ++ piece ∷ []) piece n b is refl)
-      ∙ (mapped (held_on before n) (cond b (piece.1 ∷ []) []) ∙ ap (λ (xs : List (ℕ × V)). dates_on before n ++ xs) (one b))
+  -- the dates on one day that are on another
+  on_one : (n k : ℕ) (values : List V) → on n (dates_from k values) ≡ cond (k == n) (dates_from k values) []
+  on_one n k [] = by (k == n)
     where
-      mapped : (xs ys : List V) → dates_from n (xs ++ ys) ≡ dates_from n xs ++ dates_from n ys
-      mapped [] ys = refl
-      mapped (x ∷ xs) ys = ap (λ (zs : List (ℕ × V)). (n, x) ∷ zs) (mapped xs ys)
+      by : (b : Bool) → ◌≡◌ {A = List (ℕ × V)} [] (cond b [] [])
+      by true = refl
+      by false = refl
+  on_one n k (value ∷ values) = by (k == n) (on_one n k values)
+    where
+      by : (b : Bool) → on n (dates_from k values) ≡ cond b (dates_from k values) []
+          → cond b ((k, value) ∷ on n (dates_from k values)) (on n (dates_from k values)) ≡ cond b ((k, value) ∷ dates_from k values) []
+      by true same = ap (λ dates. (k, value) ∷ dates) same
+      by false none = none
 
-      one : (b : Bool) → dates_from n (cond b (piece.1 ∷ []) []) ≡ cond b ((n, piece.1) ∷ []) []
-      one true = refl
-      one false = refl
+  -- the dates of a piece that are on a day
+  on_piece : (piece : DayRange × V) (n : ℕ) → n < day_count → on n (dates_of (piece ∷ [])) ≡ dates_on (piece ∷ []) n
+  on_piece piece n within =
+      let f : ℕ → List (ℕ × V) = dates_on (piece ∷ []) in
+      let g : ℕ → List (ℕ × V) = λ k. on n (f k) in
+      let one : n + 1 - n ≡ 1 = omega arith in
+      filter_made (λ date. date.0 == n) f (range_with_len 0 day_count)
+      ∙ window g n (n + 1) day_count (omega arith)
+      (λ k below outside. on_one n k (held_on (piece ∷ []) k) ∙ ap (λ (b : Bool). cond b (f k) []) (other n k outside))
+      ∙ ap (λ (m : ℕ). flat_map g (range_with_len n m)) one ∙ append-nil (g n)
+      ∙ on_one n n (held_on (piece ∷ []) n) ∙ ap (λ (b : Bool). cond b (f n) []) (itself n)
 
-  -- the same of dates that are added to others
-  pub added : (old now next : List (ℕ × V)) (before all : List (DayRange × V)) (piece : DayRange × V) (n : ℕ) (b : Bool)
-      → holds piece.0 n ≡ b → all ≡ before ++ piece ∷ [] → now ≡ old ++ dates_on before n
-      → next ≡ now ++ cond b ((n, piece.1) ∷ []) [] → next ≡ old ++ dates_on all n
-  added old now next before all piece n b is more so_far after =
-      after
-      ∙ (ap (λ (ds : List (ℕ × V)). ds ++ cond b ((n, piece.1) ∷ []) []) so_far
-      ∙ (append_assoc old (dates_on before n) (cond b ((n, piece.1) ∷ []) [])
-      ∙ ap (λ (ds : List (ℕ × V)). old ++ ds)
-      (sym (one_more_piece before piece n b is) ∙ ap (λ (ps : List (DayRange × V)). dates_on ps n) (sym more))))
+  -- the dates of each piece that are on a day
+  on_pieces : (pieces : List (DayRange × V)) (n : ℕ) → n < day_count → on n (dates_by_piece pieces) ≡ dates_on pieces n
+  on_pieces [] n within = refl
+  on_pieces (piece ∷ pieces) n within =
+      filter-append (λ date. date.0 == n) (dates_of (piece ∷ [])) (dates_by_piece pieces)
+      ∙ ap₂ (λ (xs ys : List (ℕ × V)). xs ++ ys) (on_piece piece n within) (on_pieces pieces n within) ∙ sym (first_piece piece pieces n)
 
--- one reference more
-pub seen_more : {A : Type 0} (xs : List (Bor A)) (x : Bor A) → map (λ p. p.now) (xs ++ x ∷ []) ≡ map (λ p. p.now) xs ++ x.now ∷ []
-seen_more [] x = refl
-seen_more (y ∷ xs) x = ap (λ ys. y.now ∷ ys) (seen_more xs x)
+  -- each date is in the calendar
+  abbrev IsDate : ℕ × V → Type 0
+  IsDate date = date.0 < day_count
+
+  each_from : (n : ℕ) (values : List V) → n < day_count → Every IsDate (dates_from n values)
+  each_from n [] within = tt
+  each_from n (value ∷ values) within = (within, each_from n values within)
+
+  each_on : (pieces : List (DayRange × V)) (a k : ℕ) → a + k ≤ day_count → Every IsDate (flat_map (dates_on pieces) (range_with_len a k))
+  each_on pieces a zero within = tt
+  each_on pieces a (suc k) within =
+      every_append IsDate (dates_on pieces a) (flat_map (dates_on pieces) (range_with_len (a + 1) k))
+      (each_from a (held_on pieces a) (omega arith)) (each_on pieces (a + 1) k (omega arith))
+
+  each_dated : (pieces : List (DayRange × V)) → Every IsDate (dates_by_piece pieces)
+  each_dated pieces = every_made IsDate (λ piece. dates_of (piece ∷ [])) pieces (λ piece. each_on (piece ∷ []) 0 day_count (omega arith))
+
+  -- ---- dates with references to their values
+
+  abbrev pub number_of : ℕ × Bor V → ℕ
+  number_of date = date.0
+
+  seen_on : (dates : List (ℕ × Bor V)) (n : ℕ) → seen_dates (of_rank number_of dates n) ≡ on n (seen_dates dates)
+  seen_on [] n = refl
+  seen_on (date ∷ dates) n = by (date.0 == n) (seen_on dates n)
+    where
+      by : (b : Bool) → seen_dates (of_rank number_of dates n) ≡ on n (seen_dates dates)
+          → seen_dates (cond b (date ∷ of_rank number_of dates n) (of_rank number_of dates n)) ≡ cond b ((date.0, date.1.now) ∷ on n (seen_dates dates)) (on n (seen_dates dates))
+      by true same = ap (λ others. (date.0, date.1.now) ∷ others) same
+      by false same = same
+
+  each_seen : (dates : List (ℕ × Bor V)) → Every IsDate (seen_dates dates) → Every (λ date. number_of date < day_count) dates
+  each_seen [] h = tt
+  each_seen (date ∷ dates) h = (h.0, each_seen dates h.1)
+
+  pub each_before_end : (pieces : List (DayRange × V)) (dates : List (ℕ × Bor V)) → seen_dates dates ≡ dates_by_piece pieces → Every (λ date. number_of date < day_count) dates
+  each_before_end pieces dates are = each_seen dates (subst (Every IsDate) (sym are) (each_dated pieces))
+
+  -- the dates of each piece, day by day
+  pub by_day : (pieces : List (DayRange × V)) (dates sorted : List (ℕ × Bor V)) → seen_dates dates ≡ dates_by_piece pieces
+      → sorted ≡ flat_map (of_rank number_of dates) (range_with_len 0 day_count) → seen_dates sorted ≡ dates_of pieces
+  by_day pieces dates sorted are is =
+      ap seen_dates is ∙ map_made (λ date. (date.0, date.1.now)) (of_rank number_of dates) (range_with_len 0 day_count)
+      ∙ same_in (λ n. seen_dates (of_rank number_of dates n)) (dates_on pieces) 0 day_count
+      (λ n from to. let within : n < day_count = omega arith in seen_on dates n ∙ ap (on n) are ∙ on_pieces pieces n within)
