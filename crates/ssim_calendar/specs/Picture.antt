@@ -3,11 +3,11 @@
 -- A cell is the letter of a day, or a full stop if the day has none.
 use Rattle.std.specs.Prelude.{ℕ, ◌+◌, ◌-◌, ◌*◌, ◌/◌, Bool, not, ◌&&◌, ◌||◌, ◌==◌, nat_eq, nat_le}
 use Rattle.std.specs.Prelude.{nat_lt, if◌then◌else◌, List, [], ◌∷◌, ◌++◌, take, drop, length}
-use Rattle.std.specs.Prelude.{slice_index, slice_index_or}
-use Rattle.std.specs.List.{flat_map, list_any, range_with_len}
+use Rattle.std.specs.Prelude.{max, min, slice_index, slice_index_or}
+use Rattle.std.specs.List.{flat_map, list_any, position_or_len, range_with_len}
 use Rattle.std.specs.Str.{bytes_eq}
 use Rattle.ssim_values.specs.Day.{day_text}
-use Rattle.ssim_periods.specs.Cover.{first_where, last_where}
+use Rattle.ssim_periods.specs.Cover.{last_where}
 use Rattle.ssim_text.specs.Left.{without_end}
 
 -- whether the day has a letter
@@ -16,7 +16,7 @@ has_letter cells n = not (slice_index_or cells n 46 == 46)
 
 -- the first day that has a letter; the number of days if there is none
 abbrev pub first_date : List ℕ → ℕ
-first_date cells = first_where (has_letter cells) 0 (length cells)
+first_date cells = position_or_len (λ cell. not (cell == 46)) cells
 
 -- the last day that has a letter
 abbrev pub last_date : List ℕ → ℕ
@@ -29,13 +29,6 @@ week_of n = (n + 5) / 7
 -- the day above a week: its Monday, or 01JAN00 above week 0
 abbrev pub monday : ℕ → ℕ
 monday week = 7 * week - 5
-
--- the greater and the less of two days
-abbrev pub later : ℕ → ℕ → ℕ
-later m n = if nat_lt m n then n else m
-
-abbrev pub earlier : ℕ → ℕ → ℕ
-earlier m n = if nat_lt n m then n else m
 
 -- the weeks from one up to another, which is not among them
 abbrev pub weeks : ℕ → ℕ → List ℕ
@@ -50,7 +43,7 @@ trimmed_line bytes = without_end bytes ++ 10 ∷ []
 -- the title, and the first and the last day of the block from the first date to the last
 abbrev pub title_line : List ℕ → ℕ → ℕ → ℕ → ℕ → List ℕ
 title_line title first last from end =
-    title ++ 32 ∷ day_text (later first (monday from)) ++ 32 ∷ day_text (earlier last (7 * end - 6))
+    title ++ 32 ∷ day_text (max first (monday from)) ++ 32 ∷ day_text (min last (7 * end - 6))
     ++ 10 ∷ []
 
 -- the three letters of the month above a week
@@ -119,7 +112,7 @@ block title cells first last from end =
 -- the blocks of the weeks from one up to another
 abbrev pub blocks : List ℕ → List ℕ → ℕ → ℕ → ℕ → ℕ → List ℕ
 blocks title cells first last from end =
-    flat_map (λ k. block title cells first last (from + 53 * k) (earlier end (from + 53 * k + 53)))
+    flat_map (λ k. block title cells first last (from + 53 * k) (min end (from + 53 * k + 53)))
     (range_with_len 0 ((end - from + 52) / 53))
 
 -- the picture from the week of the first date to the week of the last; nothing if there is no date

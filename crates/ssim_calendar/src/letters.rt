@@ -98,12 +98,8 @@ fn cell_of<V: Value>(values: &[V], value: &V) -> u8
 pub fn place_of<V: Value>(values: &[V], value: &V) -> usize
     ensures { result ≡ place_of V.alike values.now value.now }
 {
-    for place in 0..values.len() {
-        if values[place].same(value) {
-            return place;
-        }
-    }
-    values.len()
+    let found = values.iter().position(|other| other.same(value));
+    found.unwrap_or(values.len())
 }
 
 /// The letter of the value at a place among the different ones: A to Z, then a to z, and # for all

@@ -1,9 +1,9 @@
 //! The picture of a calendar: a column for each week, a row for each weekday.
 
-ghost use Rattle.std.specs.Prelude.{◌≡◌, ◌≤◌, ◌<◌, ◌+◌, ◌-◌, ◌*◌, ◌/◌, ◌++◌, length, OnOk};
+ghost use Rattle.std.specs.Prelude.{◌≡◌, ◌≤◌, ◌<◌, ◌+◌, ◌-◌, ◌*◌, ◌/◌, ◌++◌, length, min, OnOk};
 ghost use Rattle.ssim_calendar.specs.Picture.{begins_month, begins_within, block, blocks};
-ghost use Rattle.ssim_calendar.specs.Picture.{digit_above, digits_line, earlier, first_date};
-ghost use Rattle.ssim_calendar.specs.Picture.{is_beside_name, is_named, last_date, later, mark};
+ghost use Rattle.ssim_calendar.specs.Picture.{digit_above, digits_line, first_date};
+ghost use Rattle.ssim_calendar.specs.Picture.{is_beside_name, is_named, last_date, mark};
 ghost use Rattle.ssim_calendar.specs.Picture.{months_line, name_above, picture, row_line};
 ghost use Rattle.ssim_calendar.specs.Picture.{title_line, trimmed_line, weeks};
 
@@ -107,12 +107,8 @@ fn first_date(cells: &[u8]) -> usize
     ensures value { result ≡ first_date cells.now }
     ensures within { result ≤ length cells.now }
 {
-    for day in 0..cells.len() {
-        if cells[day] != b'.' {
-            return day;
-        }
-    }
-    cells.len()
+    let first = cells.iter().position(|cell| *cell != b'.');
+    first.unwrap_or(cells.len())
 }
 
 // The last day that has a letter.
@@ -135,11 +131,11 @@ impl PrintedAt for Blocks<'_, '_> {
 
     ghost text = { λ blocks number. block blocks.title.now
         blocks.dates.cells.now blocks.dates.first blocks.dates.last (blocks.from + 53 * number)
-        (earlier blocks.end (blocks.from + 53 * number + 53)) };
+        (min blocks.end (blocks.from + 53 * number + 53)) };
 
     fn print_at(&self, number: usize, lines: &mut Vec<u8>) -> Result<(), Memory> {
         let from = self.from + WEEKS * number;
-        let end = earlier(self.end, from + WEEKS);
+        let end = self.end.min(from + WEEKS);
         push_block(
             self.alloc,
             lines,
@@ -187,25 +183,13 @@ fn push_title(
 {
     lines.extend_from_slice(title)?;
     lines.push(b' ')?;
-    lines.extend_from_slice(&text_of(later(dates.first, (7 * weeks.from).saturating_sub(5))))?;
+    let monday = (7 * weeks.from).saturating_sub(5);
+    lines.extend_from_slice(&text_of(dates.first.max(monday)))?;
     lines.push(b' ')?;
-    lines.extend_from_slice(&text_of(earlier(dates.last, 7 * weeks.end - 6)))?;
+    let sunday = 7 * weeks.end - 6;
+    lines.extend_from_slice(&text_of(dates.last.min(sunday)))?;
     lines.push(b'\n')?;
     Ok(())
-}
-
-// The later of two days.
-fn later(day: usize, other: usize) -> usize
-    ensures { result ≡ later day other }
-{
-    if day < other { other } else { day }
-}
-
-// The earlier of two days.
-fn earlier(day: usize, other: usize) -> usize
-    ensures { result ≡ earlier day other }
-{
-    if other < day { other } else { day }
 }
 
 // Adds the names of the months above a block.
