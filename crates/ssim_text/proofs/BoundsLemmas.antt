@@ -1,9 +1,8 @@
 -- What the lines that spell a message say of its values.
-use Rattle.std.proofs.Common.{Bool, Option, None, IfSome, drop, refl, ◌≡◌, ◌≤◌, ◌<◌, ℕ, ◌&&◌, true, List, [], ◌∷◌, ◌++◌, length, map, sym, ap, subst, ◌∙◌, arith, Some, leb-true, eqb-true}
+use Rattle.std.proofs.Common.{Option, None, IfSome, drop, ◌≡◌, ℕ, ◌&&◌, true, List, [], ◌∷◌, ◌++◌, length, map, sym, ap, subst, ◌∙◌, arith, Some, leb-true}
 use Rattle.std.specs.Prelude.{◌==◌, nat_le}
 use Rattle.std.specs.List.{AllByRecursion, AllZip, list_all}
 use Rattle.std.proofs.lemmas.Bool.{and_parts}
-use Rattle.ssim_values.specs.Characters.{is_letter}
 use Rattle.ssim_text.specs.declared.leg.LegLine.{LegLine}
 use Rattle.ssim_text.specs.declared.segment.SegmentLine.{SegmentLine}
 use Rattle.ssim_text.specs.declared.reference.GivenReference.{GivenReference}
@@ -11,9 +10,8 @@ use Rattle.ssim_text.specs.declared.action.NewLegs.{NewLegs}
 use Rattle.ssim_text.specs.declared.action.Action.{Action}
 use Rattle.ssim_text.specs.declared.action.Action.TheVariants as action
 use Rattle.ssim_text.specs.declared.action.Sub.{Sub}
-use Rattle.ssim_text.specs.Bytes.{before, from, word, after_word, is_alphanumeric, is_printable, is_text_of}
-use Rattle.ssim_text.specs.Values.{EquipmentValue}
-use Rattle.ssim_text.specs.Lines.{creator_of, reference_of, designators_of, configuration_of, equipment_of, leg_of, segment_text_of, segment_of}
+use Rattle.ssim_text.specs.Bytes.{word, after_word, is_printable}
+use Rattle.ssim_text.specs.Lines.{creator_of, reference_of, leg_of, segment_of}
 use Rattle.ssim_text.specs.Message.{MessageValue}
 use Rattle.ssim_text.specs.Grammar.{Part, OriginatorPart, KindPart, ModePart, ReferencePart, ActionPart, FlightPart, DatedFlightPart, PeriodPart, EquipmentPart, LegPart, SegmentPart, Divider, FreePart, Spells, flight_parts, body_parts, sub_parts, later_parts, subs_parts, free_parts}
 use Rattle.ssim_text.specs.Left.{lines_left, pieces, texts}
@@ -22,12 +20,11 @@ use Rattle.ssim_text.specs.clauses.Bounds.{IsLegBounded, IsSegmentBounded, IsEqu
 use Rattle.ssim_text.specs.clauses.Bounds.{AreNewLegsBounded, IsActionBounded, AreSubsBounded}
 use Rattle.ssim_text.specs.clauses.Bounds.{IsCreatorBounded, IsReferenceBounded}
 use Rattle.ssim_text.specs.clauses.Bounds.{AreFreeLinesBounded}
-use Rattle.ssim_text.proofs.Runs.{none_some, some_same}
-use Rattle.ssim_text.proofs.LinesKept.{IsLine, all_drop, line_from, left_lines}
-use Rattle.ssim_text.proofs.Words.{carried, only_if, line_after, below_three, digits_sound}
+use Rattle.ssim_text.proofs.LinesKept.{IsLine, all_drop, left_lines}
+use Rattle.ssim_text.proofs.Words.{carried, only_if}
 use Rattle.ssim_text.proofs.HeadingAgain.{reference_sound}
-use Rattle.ssim_text.proofs.EquipmentAgain.{service_sound, aircraft_sound, equipment_sound}
-use Rattle.ssim_text.proofs.LegsAgain.{leg_sound, end_sound, segment_sound}
+use Rattle.ssim_text.proofs.EquipmentAgain.{equipment_bounded}
+use Rattle.ssim_text.proofs.LegsAgain.{leg_sound, end_sound, segment_within}
 use Rattle.ssim_text.proofs.ReadsBack.{all_left, all_right}
 
 -- ---- each line
@@ -54,78 +51,10 @@ leg_bounded leg line h =
     let s = leg_sound line leg h in
     ((end_sound (word line) leg.departure s.departure).rest.0, (end_sound (after_word line) leg.arrival s.arrival).rest.0)
 
-record IsData (text own : List ℕ) : Type 0 where
-  same : text ≡ 47 ∷ own
-  some : 1 ≤ length own
-  few : length own ≤ 155
-
-data_sound : (text own : List ℕ) → segment_text_of text ≡ Some own → IsData text own
-data_sound [] own h = absurd (none_some own h)
-data_sound (b ∷ text) own h =
-    let p = only_if ((b == 47) && nat_le 1 (length text) && nat_le (length text) 155) (Some text) own h in
-    let q = and_parts ((b == 47) && nat_le 1 (length text)) (nat_le (length text) 155) p.0 in
-    let solidus = and_parts (b == 47) (nat_le 1 (length text)) q.0 in
-    let same = some_same text own p.1 in
-    record {
-      same = ap (λ (x : ℕ). x ∷ text) (eqb-true b 47 solidus.0) ∙ ap (λ (x : List ℕ). 47 ∷ x) same;
-      some = subst (λ (x : List ℕ). 1 ≤ length x) same (leb-true 1 (length text) solidus.1);
-      few = subst (λ (x : List ℕ). length x ≤ 155) same (leb-true (length text) 155 q.1);
-    }
-
-some_from : (text own : List ℕ) → from 47 text ≡ 47 ∷ own → 1 ≤ length (from 47 text)
-some_from text own h = subst (λ (x : List ℕ). 1 ≤ length x) (sym h) (omega arith)
-
-some_text : (text : List ℕ) → 1 ≤ length (from 47 text) → 1 ≤ length text
-some_text [] h = h
-some_text (x ∷ text) h = omega arith
-
 segment_bounded : (s : SegmentLine) (line : List ℕ) → segment_of line ≡ Some s → IsLine line → IsSegmentBounded s
 segment_bounded s line h l =
-    let r = segment_sound line s h in
-    let d = data_sound (from 47 (after_word line)) s.text r.text in
-    let digits = digits_sound 1 3 (before 47 (after_word line)) s.identifier r.identifier in
-    let small = subst (λ (x : ℕ). x < 1000) digits.number (below_three (before 47 (after_word line)) digits.all digits.to) in
-    let some = some_from (after_word line) s.text d.same in
-    let last = subst IsLine d.same (line_from 47 (after_word line) (line_after line l (some_text (after_word line) some)) some) in
-    record { identifier = omega (arith, small); some = d.some; few = d.few; printable = (and_parts (is_printable 47) (list_all is_printable s.text) last.printable).1 }
-
--- up to twenty bytes, each of which passes
-record IsShort (test : ℕ → Bool) (text : List ℕ) : Type 0 where
-  few : length text ≤ 20
-  all : list_all test text ≡ true
-
-short_text : (test : ℕ → Bool) (low : ℕ) (text own : List ℕ) → is_text_of test low 20 text ≡ true → text ≡ own → IsShort test own
-short_text test low text own h e =
-    let p = and_parts (nat_le low (length text) && nat_le (length text) 20) (list_all test text) h in
-    let q = and_parts (nat_le low (length text)) (nat_le (length text) 20) p.0 in
-    subst (IsShort test) e (record { few = leb-true (length text) 20 q.1; all = p.1 })
-
-configuration_short : (text configuration : List ℕ) → configuration_of text ≡ Some configuration → IsShort is_alphanumeric configuration
-configuration_short [] configuration h = subst (IsShort is_alphanumeric) (some_same [] configuration h) (record { few = omega arith; all = refl })
-configuration_short (b ∷ text) configuration h =
-    let p = only_if ((b == 46) && is_text_of is_alphanumeric 1 20 text) (Some text) configuration h in
-    short_text is_alphanumeric 1 text configuration (and_parts (b == 46) (is_text_of is_alphanumeric 1 20 text) p.0).1 (some_same text configuration p.1)
-
-designators_short : (text designators : List ℕ) → designators_of text ≡ Some designators → IsShort is_letter designators
-designators_short text designators h =
-    let p = only_if (is_text_of is_letter 0 20 text) (Some text) designators h in
-    short_text is_letter 0 text designators p.0 (some_same text designators p.1)
-
-equipment_bounded : (e : EquipmentValue) (line : List ℕ) → equipment_of line ≡ Some e → IsEquipmentBounded e
-equipment_bounded e line h =
-    let s = equipment_sound line e h in
-    let aircraft = aircraft_sound (word (after_word line)) e.aircraft s.aircraft in
-    let designators = designators_short (before 46 (after_word (after_word line))) e.designators s.designators in
-    let configuration = configuration_short (from 46 (after_word (after_word line))) e.configuration s.configuration in
-    record {
-      service = (service_sound (word line) e.service s.service).letter;
-      aircraft_three = aircraft.three;
-      aircraft = aircraft.all;
-      designators_few = designators.few;
-      designators = designators.all;
-      configuration_few = configuration.few;
-      configuration = configuration.all;
-    }
+    let w = segment_within s line h l in
+    record { identifier = w.identifier; some = w.text.some; few = w.few; printable = w.text.printable }
 
 -- ---- each part
 

@@ -1,9 +1,10 @@
 -- The leg lines and the segment lines that are written are read as what they were written from.
-use Rattle.std.proofs.Common.{◌≡◌, ◌≤◌, ◌<◌, ℕ, ◌+◌, ◌-◌, ◌/◌, ◌%◌, Bool, true, false, not, ◌&&◌, List, [], ◌∷◌, ◌++◌, length, refl, sym, ap, subst, ◌∙◌, append_assoc, append-nil, arith, Option, Some, None, codes, take, drop, take-append-drop, eqb-true, leb-true, ltb-true}
+use Rattle.std.proofs.Common.{◌≡◌, ◌≤◌, ◌<◌, ℕ, ◌+◌, ◌-◌, ◌/◌, ◌%◌, Bool, true, false, not, ◌&&◌, List, [], ◌∷◌, ◌++◌, length, refl, sym, ap, subst, ◌∙◌, append_assoc, arith, Option, Some, None, codes, take, drop, take-append-drop, eqb-true, eq-eqb, leb-true, le-leb, ltb-true}
 use Rattle.std.specs.Prelude.{◌==◌, nat_le, nat_lt, if◌then◌else◌}
 use Rattle.std.specs.List.{list_all}
-use Rattle.std.proofs.lemmas.Bool.{and_parts}
+use Rattle.std.proofs.lemmas.Bool.{and_parts, and_from}
 use Rattle.std.specs.Str.{bytes_eq}
+use Rattle.std.proofs.lemmas.Slice.Eq.{bytes_eq-Decides}
 use Rattle.std.proofs.lemmas.Bool.Decides.{nat_tests}
 use Rattle.ssim_values.specs.Characters.{is_digit}
 use Rattle.ssim_values.specs.Clock.{clock_of, clock_text}
@@ -12,13 +13,14 @@ use Rattle.ssim_values.proofs.ClockLaws.{clock_of-sound, clock_of-clock_text}
 use Rattle.ssim_text.specs.declared.leg.LegEnd.{LegEnd}
 use Rattle.ssim_text.specs.declared.leg.LegLine.{LegLine}
 use Rattle.ssim_text.specs.declared.segment.SegmentLine.{SegmentLine}
-use Rattle.ssim_text.specs.Bytes.{◌>>=◌, before, from, drop_blanks, word, after_word, is_printable}
+use Rattle.ssim_text.specs.Bytes.{◌>>=◌, before, from, word, after_word, is_printable}
 use Rattle.ssim_text.specs.Lines.{station_in, clock_in, variation_of, passenger_of, variations_of, end_of, leg_of, points_of, digits_in, segment_text_of, segment_of}
 use Rattle.ssim_text.specs.Grammar.{LegPart, SegmentPart}
 use Rattle.ssim_text.specs.Canonical.{three_digits, short_digits, variation_text, passenger_text, leg_end_text, segment_line_text}
 use Rattle.ssim_text.proofs.Runs.{none_some, some_same}
-use Rattle.ssim_text.proofs.LinesKept.{IsLine, ReadsAgain, chosen, all_join, all_more, line_behind, line_from}
-use Rattle.ssim_text.proofs.Words.{bound, carried, only_if, only_else, lacks, is_solid, solid_printable, solid_no_blank, solid_line, before_mark, from_mark, no_blanks, word_first, behind_first, line_after, below_three, AreDigits, digits_sound, digits_complete}
+use Rattle.ssim_text.specs.internal.Made.{IsEndBounded, IsSegmentWithin, are_all_points}
+use Rattle.ssim_text.proofs.LinesKept.{IsLine, ReadsAgain, chosen, other, all_join, all_more, line_behind, line_from, line_tail}
+use Rattle.ssim_text.proofs.Words.{bound, carried, only_if, only_else, lacks, is_solid, solid_printable, solid_no_blank, solid_line, before_mark, from_mark, no_blanks, word_first, behind_first, blanks_none, line_after, below_three, AreDigits, digits_sound, digits_complete}
 
 -- ---- stations
 
@@ -43,6 +45,14 @@ station_solid [] l h = absurd (omega (arith, l))
 station_solid (a ∷ []) l h = absurd (omega (arith, l))
 station_solid (a ∷ b ∷ []) l h = absurd (omega (arith, l))
 station_solid (a ∷ b ∷ c ∷ d ∷ xs) l h = absurd (omega (arith, l))
+
+pub three_long : (station : List ℕ) → is_station station ≡ true → length station ≡ 3
+three_long station h = eqb-true (length station) 3 (and_parts (length station == 3) _ h).0
+
+pub station_read : (station : List ℕ) → is_station station ≡ true → station_in station ≡ Some station
+station_read station h =
+    chosen (length station == 3) (if is_station station then Some station else None) None (eq-eqb (length station) 3 (three_long station h))
+    ∙ chosen (is_station station) (Some station) None h
 
 -- ---- times and variations
 
@@ -165,18 +175,23 @@ end_at (a ∷ []) e same l h t r = absurd (omega (arith, l))
 end_at (a ∷ b ∷ []) e same l h t r = absurd (omega (arith, l))
 end_at (a ∷ b ∷ c ∷ d ∷ xs) e same l h t r = absurd (omega (arith, l))
 
-end_back : (text : List ℕ) (e : LegEnd) → end_of text ≡ Some e → end_of (leg_end_text e) ≡ Some e
-end_back text e h = let s = end_sound text e h in end_at e.station e refl s.station.long s.station.valid s.time s.rest
-
-end_solid : (text : List ℕ) (e : LegEnd) → end_of text ≡ Some e → list_all is_solid (leg_end_text e) ≡ true
-end_solid text e h =
+-- what is read of one end is within its bounds
+pub end_bounded : (text : List ℕ) (e : LegEnd) → end_of text ≡ Some e → IsEndBounded e
+end_bounded text e h =
     let s = end_sound text e h in
-    all_join is_solid (e.station ++ clock_text e.time ++ variation_text e.variation) (passenger_text e.time e.passenger)
-    (all_join is_solid (e.station ++ clock_text e.time) (variation_text e.variation) (all_join is_solid e.station (clock_text e.time) (station_solid e.station s.station.long s.station.valid) (clock_solid e.time s.time)) (variation_solid_at (e.variation == 0) e.variation))
-    (passenger_solid_at (e.passenger == e.time) e.passenger s.rest.1)
+    record { station = s.station.valid; time = s.time; variation = s.rest.0; passenger = s.rest.1 }
 
-end_some : (text : List ℕ) (e : LegEnd) → end_of text ≡ Some e → 1 ≤ length (leg_end_text e)
-end_some text e h = some_first e.station (clock_text e.time) (variation_text e.variation) (passenger_text e.time e.passenger) (end_sound text e h).station.long
+end_back : (e : LegEnd) → IsEndBounded e → end_of (leg_end_text e) ≡ Some e
+end_back e b = end_at e.station e refl (three_long e.station b.station) b.station b.time (b.variation, b.passenger)
+
+end_solid : (e : LegEnd) → IsEndBounded e → list_all is_solid (leg_end_text e) ≡ true
+end_solid e b =
+    all_join is_solid (e.station ++ clock_text e.time ++ variation_text e.variation) (passenger_text e.time e.passenger)
+    (all_join is_solid (e.station ++ clock_text e.time) (variation_text e.variation) (all_join is_solid e.station (clock_text e.time) (station_solid e.station (three_long e.station b.station) b.station) (clock_solid e.time b.time)) (variation_solid_at (e.variation == 0) e.variation))
+    (passenger_solid_at (e.passenger == e.time) e.passenger b.passenger)
+
+end_some : (e : LegEnd) → IsEndBounded e → 1 ≤ length (leg_end_text e)
+end_some e b = some_first e.station (clock_text e.time) (variation_text e.variation) (passenger_text e.time e.passenger) (three_long e.station b.station)
   where
     some_first : (a b c d : List ℕ) → length a ≡ 3 → 1 ≤ length (a ++ b ++ c ++ d)
     some_first [] b c d l = absurd (omega (arith, l))
@@ -198,28 +213,29 @@ leg_sound line leg h =
 both_ends : (departure arrival : Option LegEnd) (leg : LegLine) → departure ≡ Some leg.departure → arrival ≡ Some leg.arrival → (departure >>= λ d. arrival >>= λ a. Some (record { departure = d; arrival = a })) ≡ Some leg
 both_ends departure arrival leg h k = rw (h, k) refl
 
-no_blanks_alone : (xs : List ℕ) → 1 ≤ length xs → lacks 32 xs ≡ true → drop_blanks xs ≡ xs
-no_blanks_alone xs some h = ap drop_blanks (sym (append-nil xs)) ∙ no_blanks xs [] some h ∙ append-nil xs
-
-leg_read : (leg : LegLine) (from to : List ℕ) → lacks 32 from ≡ true → lacks 32 to ≡ true → 1 ≤ length to → end_of from ≡ Some leg.departure → end_of to ≡ Some leg.arrival → leg_of (from ++ 32 ∷ to) ≡ Some leg
+leg_read : (leg : LegLine) (from to : List ℕ) → lacks 32 from ≡ true → lacks 32 to ≡ true → end_of from ≡ Some leg.departure → end_of to ≡ Some leg.arrival → leg_of (from ++ 32 ∷ to) ≡ Some leg
 unfolding leg_of
-leg_read leg from to f t some h k =
+leg_read leg from to f t h k =
     both_ends (end_of (word (from ++ 32 ∷ to))) (end_of (after_word (from ++ 32 ∷ to))) leg
-    (ap end_of (word_first from to f) ∙ h) (ap end_of (behind_first from to f (no_blanks_alone to some t)) ∙ k)
+    (ap end_of (word_first from to f) ∙ h) (ap end_of (behind_first from to f (blanks_none to t)) ∙ k)
+
+-- a leg line within its bounds is read from its text
+pub leg_reads : (leg : LegLine) → IsEndBounded leg.departure → IsEndBounded leg.arrival → ReadsAgain (LegPart leg)
+leg_reads leg departure arrival =
+    let from = leg_end_text leg.departure in
+    let to = leg_end_text leg.arrival in
+    let from_solid = end_solid leg.departure departure in
+    let to_solid = end_solid leg.arrival arrival in
+    let no_blank = λ (xs : List ℕ) (k : list_all is_solid xs ≡ true). all_more is_solid (λ b. not (b == 32)) solid_no_blank xs k in
+    record {
+      spelled = leg_read leg from to (no_blank from from_solid) (no_blank to to_solid) (end_back leg.departure departure) (end_back leg.arrival arrival);
+      line = line_behind from (32 ∷ to) (all_more is_solid is_printable solid_printable from from_solid) (line_behind (32 ∷ []) to refl (solid_line to (end_some leg.arrival arrival) to_solid));
+    }
 
 pub leg_again : (leg : LegLine) (line : List ℕ) → leg_of line ≡ Some leg → ReadsAgain (LegPart leg)
 leg_again leg line h =
     let s = leg_sound line leg h in
-    let from = leg_end_text leg.departure in
-    let to = leg_end_text leg.arrival in
-    let from_solid = end_solid (word line) leg.departure s.departure in
-    let to_solid = end_solid (after_word line) leg.arrival s.arrival in
-    let no_blank = λ (xs : List ℕ) (k : list_all is_solid xs ≡ true). all_more is_solid (λ b. not (b == 32)) solid_no_blank xs k in
-    let some = end_some (after_word line) leg.arrival s.arrival in
-    record {
-      spelled = leg_read leg from to (no_blank from from_solid) (no_blank to to_solid) some (end_back (word line) leg.departure s.departure) (end_back (after_word line) leg.arrival s.arrival);
-      line = line_behind from (32 ∷ to) (all_more is_solid is_printable solid_printable from from_solid) (line_behind (32 ∷ []) to refl (solid_line to some to_solid));
-    }
+    leg_reads leg (end_bounded (word line) leg.departure s.departure) (end_bounded (after_word line) leg.arrival s.arrival)
 
 -- ---- segment lines
 
@@ -237,14 +253,70 @@ points_sound text points h =
     let off = bound (station_in (drop 3 text)) (λ (o : List ℕ). Some (two board.0 o)) points board.2 in
     subst (ArePoints text) (some_same (two board.0 off.0) points off.2) (record { board = station_sound (take 3 text) board.0 board.1; off = station_sound (drop 3 text) off.0 off.1 })
 
-segment_text_sound : (text own : List ℕ) → segment_text_of text ≡ Some own → (text ≡ 47 ∷ own) × (1 ≤ length own)
+-- the points are not the word for all points
+points_other : (text : List ℕ) (points : List ℕ × List ℕ) → points_of text ≡ Some points → bytes_eq text (codes "QQQQQQ") ≡ false
+points_other text points h = (only_else (bytes_eq text (codes "QQQQQQ")) (station_in (take 3 text) >>= λ board. station_in (drop 3 text) >>= λ off. Some (two board off)) points h).0
+
+front_points : (board off : List ℕ) → length board ≡ 3 → (take 3 (board ++ off) ≡ board) × (drop 3 (board ++ off) ≡ off)
+front_points (a ∷ b ∷ c ∷ []) off l = (refl, refl)
+front_points [] off l = absurd (omega (arith, l))
+front_points (a ∷ []) off l = absurd (omega (arith, l))
+front_points (a ∷ b ∷ []) off l = absurd (omega (arith, l))
+front_points (a ∷ b ∷ c ∷ d ∷ xs) off l = absurd (omega (arith, l))
+
+-- two stations are the word for all points if both stand for all points
+word_of_all : (board off : List ℕ) → length board ≡ 3 → are_all_points board off ≡ false → bytes_eq (board ++ off) (codes "QQQQQQ") ≡ false
+word_of_all board off l h = by (bytes_eq (board ++ off) (codes "QQQQQQ")) refl
+  where
+    by : (b : Bool) → bytes_eq (board ++ off) (codes "QQQQQQ") ≡ b → b ≡ false
+    by false e = refl
+    by true e =
+        let word = (bytes_eq-Decides (board ++ off) (codes "QQQQQQ")).0 e in
+        let cut = front_points board off l in
+        let first : board ≡ codes "QQQ" = sym cut.0 ∙ ap (take 3) word in
+        let last : off ≡ codes "QQQ" = sym cut.1 ∙ ap (drop 3) word in
+        let both = and_from (bytes_eq board (codes "QQQ")) (bytes_eq off (codes "QQQ")) ((bytes_eq-Decides board (codes "QQQ")).1 first) ((bytes_eq-Decides off (codes "QQQ")).1 last) in
+        sym both ∙ h
+
+not_all_points : (text board off : List ℕ) → text ≡ board ++ off → bytes_eq text (codes "QQQQQQ") ≡ false → are_all_points board off ≡ false
+not_all_points text board off same h = by (are_all_points board off) refl
+  where
+    by : (b : Bool) → are_all_points board off ≡ b → b ≡ false
+    by false e = refl
+    by true e =
+        let p = and_parts (bytes_eq board (codes "QQQ")) (bytes_eq off (codes "QQQ")) e in
+        let first = (bytes_eq-Decides board (codes "QQQ")).0 p.0 in
+        let last = (bytes_eq-Decides off (codes "QQQ")).0 p.1 in
+        let whole : text ≡ codes "QQQQQQ" = same ∙ (λ i. first i ++ last i) in
+        sym ((bytes_eq-Decides text (codes "QQQQQQ")).1 whole) ∙ h
+
+with_stations : (o q : Option (List ℕ)) (board off : List ℕ) → o ≡ Some board → q ≡ Some off → (o >>= λ b. q >>= λ f. Some (two b f)) ≡ Some (two board off)
+with_stations o q board off h k = rw (h, k) refl
+
+points_read : (board off : List ℕ) → is_station board ≡ true → is_station off ≡ true → are_all_points board off ≡ false → points_of (board ++ off) ≡ Some (two board off)
+points_read board off h k other_points =
+    let text = board ++ off in
+    let long = three_long board h in
+    let cut = front_points board off long in
+    other (bytes_eq text (codes "QQQQQQ")) None (station_in (take 3 text) >>= λ b. station_in (drop 3 text) >>= λ f. Some (two b f)) (word_of_all board off long other_points)
+    ∙ with_stations (station_in (take 3 text)) (station_in (drop 3 text)) board off (ap station_in cut.0 ∙ station_read board h) (ap station_in cut.1 ∙ station_read off k)
+
+segment_text_sound : (text own : List ℕ) → segment_text_of text ≡ Some own → (text ≡ 47 ∷ own) × (1 ≤ length own) × (length own ≤ 155)
 segment_text_sound [] own h = absurd (none_some own h)
 segment_text_sound (b ∷ text) own h =
     let p = only_if ((b == 47) && nat_le 1 (length text) && nat_le (length text) 155) (Some text) own h in
     let q = and_parts ((b == 47) && nat_le 1 (length text)) (nat_le (length text) 155) p.0 in
     let solidus = and_parts (b == 47) (nat_le 1 (length text)) q.0 in
-    let same = some_same text own p.1 in
-    (ap (λ (x : ℕ). x ∷ text) (eqb-true b 47 solidus.0) ∙ ap (λ (x : List ℕ). 47 ∷ x) same, subst (λ (x : List ℕ). 1 ≤ length x) same (leb-true 1 (length text) solidus.1))
+    let same = some_same text own p.1 in (
+      ap (λ (x : ℕ). x ∷ text) (eqb-true b 47 solidus.0) ∙ ap (λ (x : List ℕ). 47 ∷ x) same,
+      subst (λ (x : List ℕ). 1 ≤ length x) same (leb-true 1 (length text) solidus.1),
+      subst (λ (x : List ℕ). length x ≤ 155) same (leb-true (length text) 155 q.1),
+    )
+
+segment_text_read : (text : List ℕ) → 1 ≤ length text → length text ≤ 155 → segment_text_of (47 ∷ text) ≡ Some text
+segment_text_read text h k =
+    chosen ((47 == 47) && nat_le 1 (length text) && nat_le (length text) 155) (Some text) None
+    (and_from ((47 == 47) && nat_le 1 (length text)) (nat_le (length text) 155) (and_from (47 == 47) (nat_le 1 (length text)) refl (le-leb 1 (length text) h)) (le-leb (length text) 155 k))
 
 pub record IsSegment (line : List ℕ) (s : SegmentLine) : Type 0 where
   pub points : points_of (word line) ≡ Some (two s.board s.off)
@@ -303,26 +375,43 @@ text_some : (text : List ℕ) → 1 ≤ length (from 47 text) → 1 ≤ length t
 text_some [] h = h
 text_some (x ∷ text) h = omega arith
 
--- the points and the text are those that were read
-pub segment_again : (s : SegmentLine) (line : List ℕ) → segment_of line ≡ Some s → IsLine line → ReadsAgain (SegmentPart s)
-segment_again s line h l =
+-- what is read of a segment line is within its bounds
+pub segment_within : (s : SegmentLine) (line : List ℕ) → segment_of line ≡ Some s → IsLine line → IsSegmentWithin s
+segment_within s line h l =
     let r = segment_sound line s h in
     let p = points_sound (word line) (two s.board s.off) r.points in
-    let points = s.board ++ s.off in
-    let same : word line ≡ points = sym (take-append-drop 3 (word line)) ∙ ap (λ (x : List ℕ). x ++ drop 3 (word line)) p.board.same ∙ ap (λ (x : List ℕ). s.board ++ x) p.off.same in
-    let solid = all_join is_solid s.board s.off (station_solid s.board p.board.long p.board.valid) (station_solid s.off p.off.long p.off.valid) in
+    let same : word line ≡ s.board ++ s.off = sym (take-append-drop 3 (word line)) ∙ ap (λ (x : List ℕ). x ++ drop 3 (word line)) p.board.same ∙ ap (λ (x : List ℕ). s.board ++ x) p.off.same in
     let identifier = digits_sound 1 3 (before 47 (after_word line)) s.identifier r.identifier in
     let small = subst (λ (x : ℕ). x < 1000) identifier.number (below_three (before 47 (after_word line)) identifier.all identifier.to) in
-    let digits = short_digits_are s.identifier small in
-    let digits_printable = all_more is_digit is_printable (λ b k. solid_printable b (digit_solid b k)) (short_digits s.identifier) digits.all in
     let text = segment_text_sound (from 47 (after_word line)) s.text r.text in
     let some = from_some (after_word line) s.text text.0 in
     let last : IsLine (47 ∷ s.text) = subst IsLine text.0 (line_from 47 (after_word line) (line_after line l (text_some (after_word line) some)) some) in
+    record {
+      board = p.board.valid;
+      off = p.off.valid;
+      points = not_all_points (word line) s.board s.off same (points_other (word line) (two s.board s.off) r.points);
+      identifier = omega (arith, small);
+      few = text.2;
+      text = line_tail 47 s.text last text.1;
+    }
+
+-- a segment line within its bounds is read from its text
+pub segment_reads : (s : SegmentLine) → IsSegmentWithin s → ReadsAgain (SegmentPart s)
+segment_reads s w =
+    let points = s.board ++ s.off in
+    let solid = all_join is_solid s.board s.off (station_solid s.board (three_long s.board w.board) w.board) (station_solid s.off (three_long s.off w.off) w.off) in
+    let most = w.identifier in
+    let digits = short_digits_are s.identifier (omega (arith, most)) in
+    let digits_printable = all_more is_digit is_printable (λ b k. solid_printable b (digit_solid b k)) (short_digits s.identifier) digits.all in
+    let last = line_behind (47 ∷ []) s.text refl w.text in
     let whole : points ++ 32 ∷ (short_digits s.identifier ++ 47 ∷ s.text) ≡ segment_line_text s = sym (append_assoc points (32 ∷ short_digits s.identifier) (47 ∷ s.text)) in
     record {
       spelled = ap segment_of (sym whole)
-          ∙ segment_read s points (short_digits s.identifier) (all_more is_solid (λ b. not (b == 32)) solid_no_blank points solid) (ap points_of (sym same) ∙ r.points) digits (ap segment_text_of (sym text.0) ∙ r.text);
+          ∙ segment_read s points (short_digits s.identifier) (all_more is_solid (λ b. not (b == 32)) solid_no_blank points solid) (points_read s.board s.off w.board w.off w.points) digits (segment_text_read s.text w.text.some w.few);
       line = subst IsLine whole
           (line_behind points (32 ∷ (short_digits s.identifier ++ 47 ∷ s.text)) (all_more is_solid is_printable solid_printable points solid)
           (line_behind (32 ∷ []) (short_digits s.identifier ++ 47 ∷ s.text) refl (line_behind (short_digits s.identifier) (47 ∷ s.text) digits_printable last)));
     }
+
+pub segment_again : (s : SegmentLine) (line : List ℕ) → segment_of line ≡ Some s → IsLine line → ReadsAgain (SegmentPart s)
+segment_again s line h l = segment_reads s (segment_within s line h l)

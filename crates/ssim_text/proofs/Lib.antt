@@ -17,3 +17,4 @@ pub mod EquipmentAgain
 pub mod LegsAgain
 pub mod WorkedLemmas
 pub mod BoundsLemmas
+pub mod MadeLines

@@ -5,22 +5,23 @@ use Rattle.std.specs.List.{AllByRecursion, list_all, onto_first}
 use Rattle.std.proofs.lemmas.Bool.{and_parts, and_from}
 use Rattle.std.proofs.lemmas.Bool.Decides.{nat_tests}
 use Rattle.ssim_text.specs.Bytes.{before, from, drop_blanks, is_printable}
-use Rattle.ssim_text.specs.Left.{is_dropped, onto, without_end, numbered, left_from, pieces, texts, first_unprintable}
-use Rattle.ssim_text.specs.Grammar.{Part, Spells}
+use Rattle.ssim_text.specs.Left.{IsTextLine, is_dropped, onto, without_end, numbered, left_from, pieces, texts, first_unprintable}
+use Rattle.ssim_text.specs.Grammar.{IsSpelled, Part, Spells}
 use Rattle.ssim_text.specs.Canonical.{part_text, written}
 use Rattle.ssim_text.proofs.LeftLemmas.{keep_last}
 use Rattle.ssim_text.proofs.Runs.{none_some}
 
--- a line as it may be left: some bytes, each of them printable, the last of them no blank
-pub record IsLine (line : List ℕ) : Type 0 where
-  pub some : 1 ≤ length line
-  pub printable : list_all is_printable line ≡ true
-  pub ended : without_end line ≡ line
+-- a line as it may be left
+abbrev pub IsLine : List ℕ → Type 0
+IsLine = IsTextLine
 
 -- the written form of the part spells it, and is a line
 pub record ReadsAgain (p : Part) : Type 0 where
   pub spelled : Spells p (part_text p)
   pub line : IsLine (part_text p)
+
+pub spelled_by : (p : Part) → ReadsAgain p → IsSpelled p
+spelled_by p h = record { line = part_text p; is_line = h.line; spells = h.spelled }
 
 -- ---- tests of bytes
 

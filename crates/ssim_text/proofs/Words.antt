@@ -137,6 +137,10 @@ before_from mark (x ∷ xs) = parts_at (x == mark) x xs (before mark xs) (from m
 no_blank_first : (x : ℕ) (xs : List ℕ) → not (x == 32) ≡ true → drop_blanks (x ∷ xs) ≡ x ∷ xs
 no_blank_first x xs h = other (x == 32) (drop_blanks xs) (x ∷ xs) (same_not (x == 32) h)
 
+pub blanks_none : (xs : List ℕ) → lacks 32 xs ≡ true → drop_blanks xs ≡ xs
+blanks_none [] h = refl
+blanks_none (x ∷ xs) h = no_blank_first x xs (and_parts (not (x == 32)) (lacks 32 xs) h).0
+
 -- a word with no blank before it is not cut
 pub no_blanks : (xs rest : List ℕ) → 1 ≤ length xs → lacks 32 xs ≡ true → drop_blanks (xs ++ rest) ≡ xs ++ rest
 no_blanks [] rest some h = absurd (omega (arith, some))
@@ -218,6 +222,11 @@ below_four (a ∷ b ∷ c ∷ []) h l = omega (arith, below_grown 0 1 (a ∷ b �
 below_four (a ∷ b ∷ c ∷ d ∷ []) h l = below_grown 0 1 (a ∷ b ∷ c ∷ d ∷ []) h (omega arith)
 below_four (a ∷ b ∷ c ∷ d ∷ e ∷ text) h l = absurd (omega (arith, l))
 
+-- a text within bounds passes the test
+pub within_text : (test : ℕ → Bool) (low high : ℕ) (text : List ℕ) → low ≤ length text → length text ≤ high → list_all test text ≡ true → is_text_of test low high text ≡ true
+within_text test low high text from to all =
+    and_from (nat_le low (length text) && nat_le (length text) high) (list_all test text) (and_from (nat_le low (length text)) (nat_le (length text) high) (le-leb low (length text) from) (le-leb (length text) high to)) all
+
 -- what digits between two lengths say
 pub record AreDigits (low high n : ℕ) (text : List ℕ) : Type 0 where
   pub from : low ≤ length text
@@ -235,5 +244,5 @@ digits_sound low high text n h =
 pub digits_complete : (low high : ℕ) (text : List ℕ) (n : ℕ) → AreDigits low high n text → digits_in low high text ≡ Some n
 digits_complete low high text n h =
     chosen (is_text_of is_digit low high text) (Some (number_of text)) None
-    (and_from (nat_le low (length text) && nat_le (length text) high) (list_all is_digit text) (and_from (nat_le low (length text)) (nat_le (length text) high) (le-leb low (length text) h.from) (le-leb (length text) high h.to)) h.all)
+    (within_text is_digit low high text h.from h.to h.all)
     ∙ ap (λ (x : ℕ). Some x) h.number

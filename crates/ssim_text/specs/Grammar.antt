@@ -25,6 +25,7 @@ use Rattle.ssim_values.specs.Designator.{SpellsDesignator}
 use Rattle.ssim_text.specs.Values.{EquipmentValue, no_originator}
 use Rattle.ssim_text.specs.Lines.{originator_of, kind_text, mode_text, reference_of, identifier_text}
 use Rattle.ssim_text.specs.Lines.{SpellsDatedFlight, period_of, equipment_of, leg_of, segment_of, begins_free}
+use Rattle.ssim_text.specs.Left.{IsTextLine}
 use Rattle.ssim_text.specs.Message.{MessageValue}
 
 -- what one line of a message says
@@ -58,6 +59,24 @@ Spells (LegPart leg) line = leg_of line ≡ Some leg
 Spells (SegmentPart segment) line = segment_of line ≡ Some segment
 Spells Divider line = line ≡ codes "//"
 Spells (FreePart free) line = line ≡ free
+
+-- a line that a text can have spells the part
+pub record IsSpelled (part : Part) : Type 0 where
+  pub line : List ℕ
+  pub is_line : IsTextLine line
+  pub spells : Spells part line
+
+-- a line of a text can spell the equipment
+abbrev pub IsEquipment : EquipmentValue → Type 0
+IsEquipment equipment = IsSpelled (EquipmentPart equipment)
+
+-- a line of a text can spell the leg line
+abbrev pub IsLegLine : LegLine → Type 0
+IsLegLine line = IsSpelled (LegPart line)
+
+-- a line of a text can spell the segment line
+abbrev pub IsSegmentLine : SegmentLine → Type 0
+IsSegmentLine segment = IsSpelled (SegmentPart segment)
 
 -- ---- the order of the parts
 

@@ -1,6 +1,6 @@
 -- The lines of a text without blank lines, and without blanks and CR bytes at their ends.
-use Rattle.std.specs.Prelude.{ℕ, ◌+◌, ◌-◌, Bool, ◌||◌, ◌==◌, nat_lt, if◌then◌else◌, List, [], ◌∷◌, map}
-use Rattle.std.specs.Prelude.{length, slice_index, Option, Some, None}
+use Rattle.std.specs.Prelude.{◌≡◌, ◌≤◌, ℕ, ◌+◌, ◌-◌, Bool, true, ◌||◌, ◌==◌, nat_lt, if◌then◌else◌}
+use Rattle.std.specs.Prelude.{List, [], ◌∷◌, map, length, slice_index, Option, Some, None}
 use Rattle.std.specs.List.{slice_split, list_all}
 use Rattle.ssim_text.specs.Bytes.{is_printable}
 
@@ -54,3 +54,9 @@ abbrev pub first_unprintable : List (ℕ × List ℕ) → Option ℕ
 first_unprintable [] = None
 first_unprintable (line ∷ more) =
     if list_all is_printable line.1 then first_unprintable more else Some line.0
+
+-- a line that a text can have: one printable byte or more, the last of them no blank
+pub record IsTextLine (line : List ℕ) : Type 0 where
+  pub some : 1 ≤ length line
+  pub printable : list_all is_printable line ≡ true
+  pub ended : without_end line ≡ line

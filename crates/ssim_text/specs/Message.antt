@@ -26,3 +26,8 @@ with_sub m sub = record m { subs = m.subs ++ sub ∷ [] }
 -- the message with one more line of free text
 abbrev pub with_free : MessageValue → List ℕ → MessageValue
 with_free m line = record m { free = m.free ++ line ∷ [] }
+
+-- a message without free text
+abbrev pub message_of : List ℕ → Kind → TimeMode → GivenReference → List Sub → MessageValue
+message_of o kind mode r subs =
+    record { originator = o; kind = kind; mode = mode; reference = r; subs = subs; free = [] }

@@ -4,3 +4,4 @@ pub mod DecoderState
 pub mod Decoder
 pub mod Completions
 pub mod PrintedReference
+pub mod Made

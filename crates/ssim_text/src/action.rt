@@ -1,17 +1,18 @@
 //! Sub-messages and their actions.
-ghost use Rattle.std.specs.Prelude.{◌≡◌, IfSome, IfNone, IfOk};
-ghost use Rattle.ssim_text.specs.Grammar.{identifier_of};
+ghost use Rattle.std.specs.Prelude.{◌≡◌, true, IfSome, IfNone, IfOk};
+ghost use Rattle.ssim_text.specs.Grammar.{IsNewLegs, identifier_of};
 ghost use Rattle.ssim_text.specs.Lines.{SpellsDatedFlight};
+ghost use Rattle.ssim_text.specs.Values.{EquipmentValue};
 ghost use Rattle.ssim_values.specs.Designator.{SpellsDesignator};
 
 use crate::bytes::{cut, first_bytes};
 use crate::dates::{Dates, GivenDate, date};
 use crate::equipment::Equipment;
 use crate::kind::ActionIdentifier;
-use crate::leg::Legs;
-use crate::segment::Segments;
+use crate::leg::{LegLine, Legs, fly_all};
+use crate::segment::{SegmentLine, Segments};
 use ssim_values::Designator;
-use std::alloc::AllocError;
+use std::alloc::{AllocError, Global};
 
 /// The new equipment, legs and segment data of `NEW` and `RPL`.
 #[derive(Clone, Drop)]
@@ -19,6 +20,55 @@ pub struct NewLegs {
     pub equipment: Equipment,
     pub legs: Legs,
     pub segments: Segments,
+}
+
+impl NewLegs {
+    /// New legs with an equipment, leg lines and segment lines, if the grammar allows them: 1 to 20
+    /// leg lines, and up to 99 segment lines, whose pairs of points the legs fly.
+    pub fn new(
+        alloc: Global,
+        equipment: Equipment,
+        legs: &[LegLine],
+        segments: Vec<SegmentLine>,
+    ) -> Result<Option<NewLegs>, AllocError>
+        ensures value { IfOk result (λ made. IfSome made (λ new. new ≡ record {
+          equipment = equipment;
+          legs = legs.now;
+          segments = segments.items;
+        })) }
+        ensures some { IfOk result (λ made. IfSome made IsNewLegs) }
+        ensures none { IfOk result (λ made. IfNone made (IsNewLegs (record {
+          equipment = equipment;
+          legs = legs.now;
+          segments = segments.items;
+        }) → ⊥)) }
+    {
+        if !are_allowed(legs, &segments) {
+            return Ok(None);
+        }
+        let legs = Legs::of(alloc, legs)?;
+        Ok(Some(NewLegs {
+            equipment,
+            legs,
+            segments: Segments::of(segments),
+        }))
+    }
+}
+
+// Whether new legs can have these lines.
+fn are_allowed(legs: &[LegLine], segments: &[SegmentLine]) -> bool
+    ensures yes { result ≡ true → (equipment : EquipmentValue) → IsNewLegs (record {
+      equipment = equipment;
+      legs = legs.now;
+      segments = segments.now;
+    }) }
+    ensures only { (equipment : EquipmentValue) → IsNewLegs (record {
+      equipment = equipment;
+      legs = legs.now;
+      segments = segments.now;
+    }) → result ≡ true }
+{
+    !legs.is_empty() && legs.len() <= 20 && segments.len() <= 99 && fly_all(legs, segments)
 }
 
 /// What a sub-message does to each of its dates, by the action identifiers of SSIM.

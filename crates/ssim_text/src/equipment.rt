@@ -1,7 +1,9 @@
 //! The equipment of a flight.
 ghost use Rattle.std.specs.Prelude.{◌≡◌, ◌≤◌, length, IfSome, IfNone};
+ghost use Rattle.ssim_text.specs.Grammar.{IsEquipment};
 ghost use Rattle.ssim_text.specs.Lines.{service_of, aircraft_of, designators_of, configuration_of};
 ghost use Rattle.ssim_text.specs.Lines.{equipment_of};
+ghost use Rattle.ssim_text.specs.internal.Made.{equipment_with, layout_of};
 
 use crate::bytes::{all_alphanumeric, all_letters, cut, first_word};
 use arrayvec::ArrayVec;
@@ -30,6 +32,31 @@ impl Model for Equipment {
 }
 
 impl Equipment {
+    /// The equipment with a service type, an aircraft type, booking designators and a
+    /// configuration, if a line of a text can spell it.
+    pub fn new(
+        service: u8,
+        aircraft: [u8; 3],
+        designators: &[u8],
+        configuration: &[u8],
+    ) -> Option<Equipment>
+        ensures value { IfSome result (λ e. e ≡ record {
+          service = service;
+          aircraft = aircraft;
+          designators = designators.now;
+          configuration = configuration.now;
+        }) }
+        ensures some { IfSome result IsEquipment }
+        ensures none { IfNone result (IsEquipment (record {
+          service = service;
+          aircraft = aircraft;
+          designators = designators.now;
+          configuration = configuration.now;
+        }) → ⊥) }
+    {
+        Equipment::of_parts(&[service], &aircraft, designators, configuration)
+    }
+
     /// The service type, a letter.
     pub fn service(&self) -> u8
         ensures { result ≡ self.now.service }
@@ -56,6 +83,29 @@ impl Equipment {
         ensures { result.now ≡ self.now.configuration }
     {
         &self.configuration
+    }
+}
+
+#[tactic(auto, unfolding(crate::specs::internal::Made::equipment_with))]
+impl Equipment {
+    // The equipment with these parts, if each is within its bounds.
+    fn of_parts(
+        service: &[u8],
+        aircraft: &[u8],
+        designators: &[u8],
+        configuration: &[u8],
+    ) -> Option<Equipment>
+        ensures some { IfSome result (λ e. equipment_with service.now aircraft.now designators.now
+            configuration.now ≡ Some e) }
+        ensures none { IfNone result (equipment_with service.now aircraft.now designators.now
+            configuration.now ≡ None) }
+    {
+        Some(Equipment {
+            service: service_in(service)?,
+            aircraft: *aircraft_in(aircraft)?,
+            designators: designators_in(designators)?,
+            configuration: layout_in(configuration)?,
+        })
     }
 }
 
@@ -104,6 +154,17 @@ fn designators_in(text: &[u8]) -> Option<ArrayVec<u8, 20>>
     ensures none { IfNone result (designators_of text.now ≡ None) }
 {
     if text.len() <= 20 && all_letters(text) {
+        Some(kept(text))
+    } else {
+        None
+    }
+}
+
+fn layout_in(text: &[u8]) -> Option<ArrayVec<u8, 20>>
+    ensures some { IfSome result (λ c. layout_of text.now ≡ Some c.items) }
+    ensures none { IfNone result (layout_of text.now ≡ None) }
+{
+    if text.len() <= 20 && all_alphanumeric(text) {
         Some(kept(text))
     } else {
         None

@@ -1,11 +1,12 @@
 //! Leg lines.
 ghost use Rattle.std.specs.Prelude.{◌≡◌, ◌<◌, ◌≤◌, ◌++◌, ◌∷◌, [], length, position, codes, IfSome};
-ghost use Rattle.std.specs.Prelude.{IfNone};
-ghost use Rattle.std.specs.Prelude.{IfOk};
+ghost use Rattle.std.specs.Prelude.{IfNone, IfOk, true};
+ghost use Rattle.std.specs.List.{list_all};
 ghost use Rattle.std.specs.Str.{bytes_eq};
-ghost use Rattle.ssim_text.specs.Grammar.{leg_pair, flies};
+ghost use Rattle.ssim_text.specs.Grammar.{IsLegLine, leg_pair, flies};
 ghost use Rattle.ssim_text.specs.Lines.{station_in, clock_in, variation_of, passenger_of};
 ghost use Rattle.ssim_text.specs.Lines.{variations_of, end_of, leg_of};
+ghost use Rattle.ssim_text.specs.internal.Made.{IsEndBounded};
 
 use crate::bytes::{first_bytes, first_word};
 use crate::segment::SegmentLine;
@@ -52,6 +53,44 @@ fn midnight() -> Clock
 pub struct LegLine {
     pub departure: LegEnd,
     pub arrival: LegEnd,
+}
+
+impl LegEnd {
+    // Whether the date variation is at most 7.
+    fn is_bounded(&self) -> bool
+        ensures yes { result ≡ true → IsEndBounded self.now }
+        ensures only { self.now.variation ≤ 7 → result ≡ true }
+    {
+        // No effect at run time. The proof reads from these what stations and times are.
+        let _ = self.station.write();
+        let _ = (self.time.minutes(), self.passenger.minutes());
+        self.variation <= 7
+    }
+}
+
+impl LegLine {
+    /// The leg line with a departure and an arrival, if a line of a text can spell it: if no date
+    /// variation is more than 7.
+    pub fn new(departure: LegEnd, arrival: LegEnd) -> Option<LegLine>
+        ensures value { IfSome result
+            (λ line. line ≡ record { departure = departure; arrival = arrival }) }
+        ensures some { IfSome result IsLegLine }
+        ensures none { IfNone result
+            (IsLegLine (record { departure = departure; arrival = arrival }) → ⊥) }
+    {
+        let line = LegLine { departure, arrival };
+        if line.is_bounded() { Some(line) } else { None }
+    }
+
+    // Whether both ends are.
+    fn is_bounded(&self) -> bool
+        ensures yes { result ≡ true
+            → IsEndBounded self.now.departure × IsEndBounded self.now.arrival }
+        ensures only { self.now.departure.variation ≤ 7 → self.now.arrival.variation ≤ 7
+            → result ≡ true }
+    {
+        self.departure.is_bounded() && self.arrival.is_bounded()
+    }
 }
 
 #[tactic(auto, unfolding(crate::specs::Lines::end_of))]
@@ -168,6 +207,19 @@ impl Legs {
         })
     }
 
+    /// These lines, 1 to 20 of them.
+    pub fn of(alloc: Global, lines: &[LegLine]) -> Result<Legs, AllocError>
+        requires some { 1 ≤ length lines.now }
+        requires few { length lines.now ≤ 20 }
+        ensures { IfOk result (λ legs. legs ≡ lines.now) }
+    {
+        let mut legs = Legs::new(alloc)?;
+        for line in lines {
+            legs.push(*line);
+        }
+        Ok(legs)
+    }
+
     /// The lines, in their order.
     pub fn lines(&self) -> &[LegLine]
         ensures value { result.now ≡ self.now }
@@ -218,6 +270,13 @@ pub fn leg_pair(legs: &[LegLine], board: Station, off: Station) -> Option<(usize
         }
     }
     None
+}
+
+/// Whether leg lines fly the pair of points of each of the segment lines.
+pub(crate) fn fly_all(legs: &[LegLine], segments: &[SegmentLine]) -> bool
+    ensures { result ≡ list_all (flies legs.now) segments.now }
+{
+    segments.iter().all(|segment| flies(legs, segment))
 }
 
 /// Whether leg lines fly the pair of points of a segment line.

@@ -16,6 +16,10 @@
 //! again. Dates, times and designators are kept as values, so other spellings of a value are the
 //! same message. Two messages are equal exactly if their canonical texts are ([`Message::same`]);
 //! [`Message::copy`] returns an equal one.
+//!
+//! Values are also made of their parts: [`Equipment::new`], [`LegLine::new`], [`SegmentLine::new`],
+//! [`NewLegs::new`]. Each gives exactly those that a text can have. [`Message::new`] makes a message
+//! of such parts.
 #![tactic(auto)]
 
 mod action;
@@ -44,7 +48,7 @@ pub use equipment::Equipment;
 pub use fault::{Fault, TextFault};
 pub use kind::{ActionIdentifier, Kind};
 pub use leg::{LegEnd, LegLine, Legs, leg_pair, read_station};
-pub use lines::{Line, lines_left, without_end};
+pub use lines::{Line, is_text_line, lines_left, without_end};
 pub use message::{FreeLine, Message, encode};
 pub use originator::Originator;
 pub use reference::{CreatorReference, GivenReference, GroupCode, Reference};

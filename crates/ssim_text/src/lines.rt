@@ -1,6 +1,7 @@
 //! The lines of a text without empty lines, and without blanks and CR bytes at their ends.
-ghost use Rattle.std.specs.Prelude.{◌≡◌, ℕ, ◌+◌, ◌≤◌, ◌++◌, [], length, map, IfOk, OnOk};
-ghost use Rattle.ssim_text.specs.Left.{is_dropped, without_end, numbered, lines_left, place_number};
+ghost use Rattle.std.specs.Prelude.{◌≡◌, ℕ, ◌+◌, ◌≤◌, ◌++◌, [], length, map, true, IfOk, OnOk};
+ghost use Rattle.ssim_text.specs.Left.{IsTextLine, is_dropped, without_end, numbered, lines_left};
+ghost use Rattle.ssim_text.specs.Left.{place_number};
 ghost use Rattle.ssim_text.specs.Left.{numbers, first_unprintable};
 ghost use Rattle.ssim_text.specs.Bytes.{is_printable};
 ghost use Rattle.std.specs.List.{All, list_all};
@@ -35,6 +36,15 @@ pub fn without_end(line: &[u8]) -> &[u8]
         line = rest;
     }
     line
+}
+
+/// Whether bytes are a line that a text can have: one printable byte or more, and no blank at the
+/// end.
+pub fn is_text_line(line: &[u8]) -> bool
+    ensures yes { result ≡ true → IsTextLine line.now }
+    ensures only { IsTextLine line.now → result ≡ true }
+{
+    !line.is_empty() && is_printable(line) && without_end(line) == line
 }
 
 /// A further line, if it is not empty.

@@ -1,6 +1,6 @@
 //! Messages.
 ghost use Rattle.std.specs.Prelude.{◌≡◌, ◌↔◌, IfOk, IsTrue};
-ghost use Rattle.ssim_text.specs.Message.{begun, with_sub, with_free};
+ghost use Rattle.ssim_text.specs.Message.{begun, message_of, with_sub, with_free};
 ghost use Rattle.ssim_text.specs.Canonical.{canonical};
 ghost use Rattle.ssim_text.specs.Grammar.{IsShape};
 ghost use Rattle.ssim_text.specs.clauses.Bounds.{AreSubsBounded, IsReferenceBounded};
@@ -235,6 +235,36 @@ impl Message {
         ensures { result ≡ content }
     {
         Message { content, text }
+    }
+
+    /// The message with these sub-messages, which a text can have under this heading, and without
+    /// free text. The error says that memory ran out.
+    pub fn new(
+        alloc: Global,
+        originator: Originator,
+        kind: Kind,
+        mode: TimeMode,
+        reference: GivenReference,
+        subs: Vec<Sub>,
+    ) -> Result<Message, Memory>
+        requires { SpellsMessage (message_of originator kind mode reference subs.items)
+            (canonical (message_of originator kind mode reference subs.items)) }
+        ensures { IfOk result
+            (λ message. message ≡ message_of originator kind mode reference subs.items) }
+    {
+        let content = MessageContent {
+            originator,
+            kind,
+            mode,
+            reference,
+            subs,
+            free: Vec::new(alloc),
+        };
+        let content = Draft {
+            content: Box::new(alloc, content)?,
+        };
+        let text = content.encode(alloc, 0)?;
+        Ok(Message::of(content, text))
     }
 
     /// The canonical text: one LF after each line, the mode line always, single blanks between

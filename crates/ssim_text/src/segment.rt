@@ -1,9 +1,14 @@
 //! Segment lines.
-ghost use Rattle.std.specs.Prelude.{◌≡◌, ◌<◌, ◌≤◌, ◌++◌, ◌∷◌, [], length, IfSome, IfNone, IfOk, OnOk};
+ghost use Rattle.std.specs.Prelude.{◌≡◌, ◌<◌, ◌≤◌, ◌++◌, ◌∷◌, [], length, true, IfSome, IfNone, IfOk};
+ghost use Rattle.std.specs.Prelude.{IsTrue, OnOk};
+ghost use Rattle.ssim_values.specs.Station.{is_station};
+ghost use Rattle.ssim_text.specs.Grammar.{IsSegmentLine};
 ghost use Rattle.ssim_text.specs.Lines.{points_of, segment_text_of, segment_of};
+ghost use Rattle.ssim_text.specs.internal.Made.{IsSegmentWithin, are_all_points};
 
 use crate::bytes::{cut, first_bytes, first_word};
 use crate::leg::read_station;
+use crate::lines::is_text_line;
 use crate::reference::digits;
 use ssim_values::Station;
 use std::alloc::{AllocError, Global};
@@ -70,6 +75,72 @@ fn text_in(text: &[u8]) -> Option<&[u8]>
     }
 }
 
+impl SegmentLine {
+    /// The segment line with a board point, an off point, an identifier and a text, if a line of a
+    /// text can spell it; none if it cannot.
+    pub fn new(
+        alloc: Global,
+        board: Station,
+        off: Station,
+        identifier: u16,
+        text: &[u8],
+    ) -> Result<Option<SegmentLine>, AllocError>
+        ensures value { IfOk result (λ made. IfSome made (λ segment. segment ≡ record {
+          board = board;
+          off = off;
+          identifier = identifier;
+          text = text.now;
+        })) }
+        ensures some { IfOk result (λ made. IfSome made IsSegmentLine) }
+        ensures none { IfOk result (λ made. IfNone made (IsSegmentLine (record {
+          board = board;
+          off = off;
+          identifier = identifier;
+          text = text.now;
+        }) → ⊥)) }
+    {
+        if !can_stand(board, off, identifier, text) {
+            return Ok(None);
+        }
+        let bytes = Vec::from_slice(alloc, text)?;
+        Ok(Some(SegmentLine {
+            board,
+            off,
+            identifier,
+            text: SegmentText { bytes },
+        }))
+    }
+}
+
+// Whether the parts of a segment line are within their bounds.
+fn can_stand(board: Station, off: Station, identifier: u16, text: &[u8]) -> bool
+    ensures yes { result ≡ true → IsSegmentWithin (record {
+      board = board;
+      off = off;
+      identifier = identifier;
+      text = text.now;
+    }) }
+    ensures only { IsSegmentWithin (record {
+      board = board;
+      off = off;
+      identifier = identifier;
+      text = text.now;
+    }) → result ≡ true }
+{
+    !are_all_points(board, off) && identifier <= 999 && text.len() <= 155 && is_text_line(text)
+}
+
+// Whether both points are `QQQ`, which stands for all points.
+fn are_all_points(board: Station, off: Station) -> bool
+    ensures value { result ≡ are_all_points board off }
+    ensures board { IsTrue (is_station board) }
+    ensures off { IsTrue (is_station off) }
+{
+    let board = board.write();
+    let off = off.write();
+    board.as_slice() == b"QQQ".as_slice() && off.as_slice() == b"QQQ".as_slice()
+}
+
 #[tactic(auto, unfolding(crate::specs::Lines::segment_of))]
 impl SegmentLine {
     /// Reads two stations in one word, an identifier, and a text.
@@ -121,6 +192,14 @@ impl Segments {
         Segments {
             lines: Vec::new(alloc),
         }
+    }
+
+    /// These lines.
+    pub(crate) fn of(lines: Vec<SegmentLine>) -> Segments
+        requires { length lines.items ≤ 99 }
+        ensures { result ≡ lines.items }
+    {
+        Segments { lines }
     }
 
     /// The lines, in their order.
