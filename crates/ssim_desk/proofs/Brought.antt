@@ -28,6 +28,3 @@ module _ (old other : DeskSeen) (base : old.base ≡ other.base) (agree : Agree 
         begins = head.1;
         is_new = not_held old.held at first.first.reference mine.rising first.gap;
       }
-
-pub replayed_by : (old other new : DeskSeen) (at : ℕ) (rest : List Entry) → MergeBrings old other at rest → IsReplaced old at rest new → IsReplayed old new
-replayed_by old other new at rest b r = replayed old new at b.first b.others b.within (subst (λ (es : List Entry). IsReplaced old at es new) b.begins r) b.is_new

@@ -94,16 +94,6 @@ module _ {X : Type 0} (seen : X → DeskSeen) where
 
 -- ---- a merge with itself, and one of two desks
 
-pub own_merge : (states : List DeskState) (into from : ℕ) → into ≡ from → MergesOne (into == from) states into from Merged states
-own_merge states into from same = subst (λ b. MergesOne b states into from Merged states) (sym (eq-eqb into from same)) (refl, refl)
-
-pub two_merge : (states after : List DeskState) (into from : ℕ) (answer : Answer) → (into ≡ from → ⊥) → MergesAt states into from answer after → MergesOne (into == from) states into from answer after
-two_merge states after into from answer apart merges = by (into == from) refl
-  where
-    by : (b : Bool) → (into == from) ≡ b → MergesOne b states into from answer after
-    by true e = absurd (apart ((Decides-eqb into from).0 e))
-    by false e = merges
-
 -- ---- a desk that no step has changed
 
 other_place : {X : Type 0} (xs : List X) (i j : ℕ) (x : X) → j ≢ i → slice_get (set xs i x) j ≡ slice_get xs j

@@ -73,10 +73,6 @@ own = numerals_by_value AreDigits digits_test
 pub decimal_digits : (n : ℕ) → n < 2 ^ 64 → list_all is_digit (decimal n) ≡ true
 decimal_digits n h = digits_decimal own n h
 
-zero_alone : (rest : List ℕ) → is_empty rest ≡ true → length (48 ∷ rest) ≡ 1
-zero_alone [] h = refl
-zero_alone (b ∷ rest) h = absurd cc
-
 alone_zero : (rest : List ℕ) → length (48 ∷ rest) ≡ 1 → is_empty rest ≡ true
 alone_zero [] h = refl
 alone_zero (b ∷ rest) h = absurd (omega (arith, h))

@@ -130,9 +130,6 @@ records_apart one xs ys rest rest' is are n e =
 some_same : {A : Type 0} (x y : A) → Some x ≡ Some y → x ≡ y
 some_same x y e = ap (λ o. unwrap_or o x) e
 
-length_variation : (v : Offset) → length (variation_text v) ≡ 5
-length_variation v = refl
-
 same_day : (m n : ℕ) → m < day_limit → n < day_limit → day_text m ≡ day_text n → m ≡ n
 same_day m n low low' e = some_same m n (sym (day_of-day_text m low) ∙ ap day_of e ∙ day_of-day_text n low')
 

@@ -70,10 +70,6 @@ position_rises (p ∷ ps) zero j le = omega arith
 position_rises (p ∷ ps) (suc i) zero le = absurd (omega (arith, le))
 position_rises (p ∷ ps) (suc i) (suc j) le = let more = position_rises ps i j (omega (arith, le)) in omega (arith, more)
 
-some_messages : (p : List Entry) → IsFilled p → 0 < length p
-some_messages [] filled = absurd (filled refl)
-some_messages (e ∷ p) filled = omega arith
-
 -- ---- a change of one page
 
 insert_first : (xs ys : List Entry) (at : ℕ) (e : Entry) → at ≤ length xs → insert (xs ++ ys) at e ≡ insert xs at e ++ ys
@@ -242,11 +238,6 @@ gap_page ps k at gap no_end = by (slice_get ps k) refl gap
     by None is (none, first, _) = absurd (no_end (first ∙ ap length (sym none)))
     by (Some page) is le = (page, is, le)
 
--- a gap after all pages is before the first message of all
-pub gap_end : (ps : List (List Entry)) (k at : ℕ) → MatchOption (slice_get ps k) ((ps ≡ []) × (k ≡ 0) × (at ≡ 0)) (λ page. at ≤ length page) → k ≡ length ps
-    → (ps ≡ []) × (k ≡ 0) × (at ≡ 0)
-gap_end ps k at gap end = subst (λ o. MatchOption o ((ps ≡ []) × (k ≡ 0) × (at ≡ 0)) (λ page. at ≤ length page)) (slice_get_past ps k (omega (arith, end))) gap
-
 insert_end : (xs : List Entry) (n : ℕ) (e : Entry) → n ≡ length xs → insert xs n e ≡ xs ++ e ∷ []
 insert_end [] zero e is = refl
 insert_end [] (suc n) e is = absurd (omega (arith, is))
@@ -347,9 +338,6 @@ without_set : (ps : List (List Entry)) (k : ℕ) (p : List Entry) → remove (se
 without_set [] k p = refl
 without_set (q ∷ ps) zero p = refl
 without_set (q ∷ ps) (suc k) p = ap (λ (x : List (List Entry)). q ∷ x) (without_set ps k p)
-
-pub filled_without : (ps : List (List Entry)) (k : ℕ) (p : List Entry) → All IsFilled ps → All IsFilled (remove (set ps k p) k)
-filled_without ps k p filled = subst (All IsFilled) (sym (without_set ps k p)) (All-append IsFilled (take k ps) (drop (suc k) ps) (All-take IsFilled k ps filled) (All-drop IsFilled (suc k) ps filled))
 
 pub none_left : (p : List Entry) → length p ≡ 0 → p ≡ []
 none_left [] none = refl

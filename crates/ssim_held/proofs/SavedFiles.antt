@@ -73,9 +73,6 @@ version_is bytes one version base es file e =
     let same = counted_apart (codes "SSIMDESK") (version_number version) (version_number file.version) one (after_first_line base es) (small version) (small file.version) (sym e ∙ file.is) in
     (same_version version file.version same.0, same.1)
 
-pub saved_base : (base : BaseSeen) (es : List Entry) → CanBeSaved base es → IsBase base
-saved_base base es can = (can.is_base, can.rows)
-
 pub saved_texts : (version : FileVersion) (base : BaseSeen) (es : List Entry) → CanBeSaved base es → All (IsOf version) es → AreHeld version base.records es
 saved_texts version base es can of_version = record { entries_are = can.entries_are; spelled = can.spelled; of_version = of_version }
 

@@ -85,9 +85,6 @@ pub record Goes (version : FileVersion) (records : List Record) (start : List �
   pub each : Each (IsHeldText version records) held
   pub few : (n : ℕ) → count ≡ Some n → length held ≤ n
 
-pub goes_first : (version : FileVersion) (records : List Record) (start : List ℕ) (count : Option ℕ) → Goes version records start count [] start
-goes_first version records start count = record { read = refl; rising = refl; each = tt; few = λ n e. omega arith }
-
 pub goes_more : (version : FileVersion) (records : List Record) (start : List ℕ) (count : Option ℕ) (held : List Entry) (next : Entry) (rest after : List ℕ) → Goes version records start count held rest
     → (count ≡ Some (length held) → ⊥) → IsNextText version records held next → rest ≡ text_element next ++ after → Goes version records start count (held ++ next ∷ []) after
 goes_more version records start count held next rest after g more is e = record {

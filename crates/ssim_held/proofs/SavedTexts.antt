@@ -96,15 +96,6 @@ text_of records text m r e spelled is resolves same =
 
 -- ---- a text and its length
 
-pub element_is : (bytes rest text after : List ℕ) (e : Entry) (count : Option ℕ) → IfSome count (λ n. bytes ≡ counted (codes "TEXT") n ++ rest) → IsSomeAnd count (λ n. length text ≡ n * 1) → rest ≡ text ++ after
-    → text ≡ canonical e.message → bytes ≡ text_element e ++ after
-element_is bytes rest text after e None a b c d = absurd b
-element_is bytes rest text after e (Some n) a b c d =
-    let size : n ≡ length (canonical e.message) = omega (arith, b, ap length d) in
-    a ∙ ap (λ (k : ℕ). counted (codes "TEXT") k ++ rest) size
-    ∙ ap (λ (xs : List ℕ). counted (codes "TEXT") (length (canonical e.message)) ++ xs) (c ∙ ap (λ (xs : List ℕ). xs ++ after) d)
-    ∙ sym (append_assoc (counted (codes "TEXT") (length (canonical e.message))) (canonical e.message) after)
-
 pub element_parts : (bytes later : List ℕ) (e : Entry) → bytes ≡ text_element e ++ later → bytes ≡ counted (codes "TEXT") (length (canonical e.message)) ++ (canonical e.message ++ later)
 element_parts bytes later e h = h ∙ append_assoc (counted (codes "TEXT") (length (canonical e.message))) (canonical e.message) later
 

@@ -242,9 +242,3 @@ module _ (mine theirs : List Entry) (rising : AreRising mine) (others : AreRisin
   pub whole_is : map_of all ≡ union (map_of mine) (map_of theirs)
   whole_is = same_map reference_total reference_apart _ _ (λ q.
       get-map_of all q whole_rising ∙ find_merged q all mine theirs m (T-from_true _ rising) (T-from_true _ others) ∙ sym (union_at mine theirs rising others q))
-
-pub whole_entries : (records : List Record) (mine theirs : List Entry) → AreEntries records mine → AreEntries records theirs → (all : List Entry) → IsMerged mine theirs all → AreEntries records all
-whole_entries records mine theirs h k all m = record {
-  rising = whole_rising mine theirs h.rising k.rising all m;
-  each = all_merged (IsEntry records) all mine theirs m h.each k.each;
-}

@@ -50,8 +50,3 @@ prints_then x y p q r (Err e) g h = (h.0, breaks_more x y p q r g h.1)
 -- bytes were put, and then the printer is flushed
 pub flushes : (x : List ℕ) (p q r : Paper) (result : Result (Unit {0}) Refusal) → Grows x p q → Prints [] q r result → Prints x p r result
 flushes x p q r result g h = subst (λ (bs : List ℕ). Prints bs p r result) (append-nil x) (prints_then x [] p q r result g h)
-
--- of a result of printing, all bytes or a failure
-pub all_or_fails : (bytes : List ℕ) (p q : Paper) (result : Result (Unit {0}) Refusal) → Prints bytes p q result → PrintsOrFails bytes p q
-all_or_fails bytes p q (Ok x) h = inl h.0
-all_or_fails bytes p q (Err e) h = inr h.1

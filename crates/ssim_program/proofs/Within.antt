@@ -24,17 +24,6 @@ use Rattle.ssim_program.specs.declared.refusal.Refusal.TheVariants as refused
 abbrev pub Fails : Option Files → ℕ → Type 0
 Fails files failures = IfSome files (λ all. failures ≡ 0)
 
--- the file was read to its end, and its bytes are refused
-pub reads_fault : (files : Option Files) (name : Text) (left : Option (List ℕ)) (e : BaseFault) → IsOpened files name left → RefusesWhole file_limit left e → IsUnread name e None
-    → IsOfBytes e × ReadsFile files name (Err e)
-reads_fault files name left fault.Memory opened whole is = absurd cc
-reads_fault files name left (Read (Short n)) opened whole is = (tt, (left, opened, whole))
-reads_fault files name left (Read (BadType n)) opened whole is = (tt, (left, opened, whole))
-reads_fault files name left (Read (BadColumn n column)) opened whole is = (tt, (left, opened, whole))
-reads_fault files name left (Read (ReadFault n)) opened whole is = let e = is.1 in absurd cc
-reads_fault files name left (Read (ReaderNeverEnds n)) opened whole is = let e = is.1 in absurd cc
-reads_fault files name left (Refused n why) opened whole is = (tt, (left, opened, whole))
-
 some_is : (a b : Refusal) → Some a ≡ Some b → b ≡ a
 some_is a b e = cc
 
@@ -78,15 +67,6 @@ pub refuses_read : (files : Option Files) (name : Text) (before after : Reader) 
 refuses_read files name before after e refusal =
     refuses_unread files name before.left after.left before.came after.came before.failures after.failures e refusal
 
--- there is no file of this name
-pub not_opened : (files : Option Files) (name : Text) → IfSome files (λ all. IfSome (file_of all name) (λ bytes. ⊥)) → IsMissing files name
-not_opened None name none = tt
-not_opened (Some all) name none = missing (file_of all name) none
-  where
-    missing : (o : Option (List ℕ)) → IfSome o (λ bytes. ⊥) → IfSome o (λ bytes. file_limit < length bytes)
-    missing None none = tt
-    missing (Some x) none = absurd none
-
 -- the file of this name is within the limit, if it was read
 pub has_file : (files : Option Files) (name : Text) (outcome : Outcome) → ReadsFile files name outcome → (bytes : List ℕ) × HasFile files name bytes
 has_file None name outcome read = ([], (omega arith, tt))
@@ -103,17 +83,3 @@ read_within files name (Ok (Err e)) read fault = has_file files name (Err e) fau
 read_within files name (Err refusal) read fault = tt
 
 -- ---- bytes in memory
-
--- bytes within the limit, which are read without a failure, are refused for themselves
-pub bytes_refused : (bytes : List ℕ) (left' : Option (List ℕ)) (start now : ℕ) (e : BaseFault) → length bytes ≤ file_limit → RefusesWhole file_limit (Some bytes) e → FailsAs 0 0 e
-    → NeverEnds file_limit (HaveCome (Some bytes) left' start now) e → (e ≡ fault.Memory) ⊎ (IsOfBytes e × IsReadAs file_limit bytes (Err e))
-bytes_refused bytes left' start now fault.Memory within whole failed over = inl refl
-bytes_refused bytes left' start now (Read (Short n)) within whole failed over = inr (tt, whole.0)
-bytes_refused bytes left' start now (Read (BadType n)) within whole failed over = inr (tt, whole.0)
-bytes_refused bytes left' start now (Read (BadColumn n column)) within whole failed over = inr (tt, whole.0)
-bytes_refused bytes left' start now (Read (ReadFault n)) within whole failed over = absurd (omega (arith, failed))
-bytes_refused bytes None start now (Read (ReaderNeverEnds n)) within whole failed over = absurd over
-bytes_refused bytes (Some x) start now (Read (ReaderNeverEnds n)) within whole failed over =
-    let came = over in
-    absurd (omega (arith, within, came))
-bytes_refused bytes left' start now (Refused n why) within whole failed over = inr (tt, whole.0)
