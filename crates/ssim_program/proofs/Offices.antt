@@ -20,7 +20,7 @@ use Rattle.ssim_desk.specs.Desk.{take_answer}
 use Rattle.ssim_desk.specs.Deliveries.{is_accepted}
 use Rattle.ssim_desk.specs.declared.steps.Answer.TheVariants.{Merged}
 use Rattle.ssim_command_line.specs.Line.{Text}
-use Rattle.ssim_program.specs.Desks.{ReadsDesk, TakesText}
+use Rattle.ssim_program.specs.Desks.{desk_in, text_taken}
 use Rattle.ssim_program.specs.internal.Take.{TakesTexts}
 use Rattle.ssim_program.specs.Files.{Files, file_of}
 use Rattle.ssim_program.specs.Made.{file_limit}
@@ -28,7 +28,7 @@ use Rattle.ssim_program.specs.Receiving.{IsAccepted, Receipt, texts_received}
 use Rattle.ssim_program.specs.Offices.{BeganBy, BeganFrom, Began, Bringing, Brought, BroughtBy, Happened, History, HoldsWhatWasBrought, IsIn, IsSaid, OfficesAgree, Origin, Then, files_of, origin_of}
 use Rattle.ssim_program.specs.Offices as office
 use Rattle.ssim_program.proofs.AcceptedTexts.{accepted, after_files}
-use Rattle.ssim_program.proofs.Origins.{Comes, comes, same_some}
+use Rattle.ssim_program.proofs.Origins.{Comes, comes, same_some, read_from}
 use Rattle.ssim_program.proofs.SavedDesks.{IsValid, is_listed, same_file, valid_fewer, valid_file, valid_merge, valid_start, valid_take}
 use Rattle.ssim_program.proofs.Withdrawing.{left_after}
 use Rattle.ssim_program.specs.Withdrawing.{IsNamed}
@@ -103,9 +103,9 @@ module _ (one : OneMessage) (again : CanonicalReadsBack) (one_each : OneReferenc
   -- ---- texts
 
   -- one more text
-  next_text : (files : Files) (name : Text) (names : List Text) (before between after : DeskSeen) (printed : List ℕ) → TakesText (Some files) name before between printed
+  next_text : (files : Files) (name : Text) (names : List Text) (before between after : DeskSeen) (printed : List ℕ) → text_taken (Some files) name before (Ok (between, printed))
       → AfterTexts files names between after → AfterTexts files (name ∷ names) before after
-  next_text files name names before between after printed (text, has, answer, reference, taken, line) rest =
+  next_text files name names before between after printed (text, has, (answer, reference, taken, line)) rest =
       record {
         base = rest.base ∙ taken.base;
         valid = rest.valid;
@@ -126,9 +126,9 @@ module _ (one : OneMessage) (again : CanonicalReadsBack) (one_each : OneReferenc
           inl ((step r m).1 (inr (accepted answer reference, subst (λ (bs : List ℕ). Says before.base bs r m) same says)))
       back r m (inr (inr s)) = inr (subst (λ (b : BaseSeen). IsSaid files b names r m) (sym taken.base) s)
 
-  valid_next : (files : Files) (name : Text) (before between : DeskSeen) (printed : List ℕ) → TakesText (Some files) name before between printed → IsValid before.base (map_of before.held)
+  valid_next : (files : Files) (name : Text) (before between : DeskSeen) (printed : List ℕ) → text_taken (Some files) name before (Ok (between, printed)) → IsValid before.base (map_of before.held)
       → IsValid between.base (map_of between.held)
-  valid_next files name before between printed (text, has, answer, reference, taken, line) valid =
+  valid_next files name before between printed (text, has, (answer, reference, taken, line)) valid =
       subst (λ (b : BaseSeen). IsValid b (map_of between.held)) (sym taken.base) (valid_take one again (state_of before) text (take_answer (Ok (answer, reference))) (map_of between.held) valid taken.takes)
 
   after_texts : (files : Files) (names : List Text) (before after : DeskSeen) (printed : List ℕ) → TakesTexts (Some files) names before after printed → IsValid before.base (map_of before.held)
@@ -140,15 +140,15 @@ module _ (one : OneMessage) (again : CanonicalReadsBack) (one_each : OneReferenc
 
   -- ---- one event
 
-  reads_of : (files : Files) (name : Text) (desk : DeskSeen) → ReadsDesk (Some files) name desk → Reads (file_of files name) desk.base desk.held
+  reads_of : (files : Files) (name : Text) (desk : DeskSeen) → desk_in (Some files) name (Ok desk) → Reads (file_of files name) desk.base desk.held
   reads_of files name desk (bytes, has, is) = (bytes, has.0, has.1, is)
 
   module _ (files : Files) (brought : Bringing) (before : (name : Text) → Holding (file_of files name) (brought name)) where
     -- a new desk
     after_start : (dataset stations : Text) (file : Option (List ℕ)) (c : Comes (office.Started dataset stations) files file) → IsKept file c.0 (BroughtBy (office.Started dataset stations) files brought)
-    after_start dataset stations file (base, notes, read, is_base, is) =
-        let table = read.1 in
-        is_kept file base [] _ refl (valid_start base _ is_base table.2) is (λ r m. (λ h. let none : get (map_of []) r ≡ None = get-map_of [] r refl in absurd cc, λ n. absurd n))
+    after_start dataset stations file (base, read, is_base, is) =
+        let table = read_from (Some files) dataset stations base read in
+        is_kept file base [] _ refl (valid_start base _ is_base table.spells) is (λ r m. (λ h. let none : get (map_of []) r ≡ None = get-map_of [] r refl in absurd cc, λ n. absurd n))
 
     -- a desk that took texts
     after_take : (name : Text) (texts : List Text) (file : Option (List ℕ)) (c : Comes (office.Took name texts) files file) → IsKept file c.0.base (BroughtBy (office.Took name texts) files brought)
@@ -251,12 +251,12 @@ module _ (one : OneMessage) (again : CanonicalReadsBack) (one_each : OneReferenc
         → (origin : Origin) (file : Option (List ℕ)) → Comes origin files file → BeganBy origin files began d s → IsFounded file (BroughtBy origin files brought) d s
     founded began d s earlier (office.Was name) file c from = subst (λ (f : Option (List ℕ)). IsFounded f (brought name) d s) (sym c) (earlier name from)
     founded began d s earlier (office.Started dataset stations) file c from =
-        let read = c.2 in
-        let opened = read.0.1 in
-        let left : read.0.0 ≡ Some d = opened.2 ∙ sym opened.1 ∙ from.0 in
-        let same_table : read.1.0 ≡ s = same_some read.1.0 s (sym read.1.1.1 ∙ from.1) in (
+        let is = read_from (Some files) dataset stations c.0 c.1 in
+        let opened = is.read.1 in
+        let left : is.read.0 ≡ Some d = opened.2 ∙ sym opened.1 ∙ from.0 in
+        let same_table : is.table ≡ s = same_some is.table s (sym is.has.1 ∙ from.1) in (
           c.0,
-          (c.1, subst (λ (o : Option (List ℕ)). IsReadOf file_limit o (Ok (c.0.records, c.1))) left read.0.2.0, subst (λ (bs : List ℕ). SpellsTable c.0.rows bs) same_table read.1.2),
+          (is.notes, subst (λ (o : Option (List ℕ)). IsReadOf file_limit o (Ok (c.0.records, is.notes))) left is.read.2.0, subst (λ (bs : List ℕ). SpellsTable c.0.rows bs) same_table is.spells),
           after_start dataset stations file c,
         )
     founded began d s earlier (office.Took name texts) file c from =

@@ -1,17 +1,19 @@
 -- What the file of a name is after an event, by where it comes from.
-use Rattle.std.proofs.Common.{◌≡◌, ◌∙◌, ℕ, Bool, true, false, if◌then◌else◌, List, [], ◌∷◌, Option, Some, None, refl, sym, ap, subst, option_map, find}
+use Rattle.std.proofs.Common.{◌≡◌, ◌∙◌, ℕ, Bool, true, false, if◌then◌else◌, List, [], ◌∷◌, Option, Some, None, Ok, refl, sym, ap, subst, option_map, find}
 use Rattle.std.specs.Str.{bytes_eq}
 use Rattle.ssim_base.specs.BaseSeen.{BaseSeen}
 use Rattle.ssim_base.specs.SavedBase.{IsBaseRecords}
+use Rattle.ssim_base.specs.Stations.{Row, SpellsTable}
 use Rattle.ssim_base.specs.declared.note.Note.{Note}
+use Rattle.ssim_records.specs.declared.record.Record.{Record}
 use Rattle.ssim_held.specs.Entries.{AreRising, DeskSeen}
 use Rattle.ssim_held.specs.File.{desk_file}
 use Rattle.ssim_program.specs.Acts.{Act, kept_by}
-use Rattle.ssim_program.specs.Desks.{IsMergeOf, ReadsDesk}
+use Rattle.ssim_program.specs.Desks.{IsMergeOf, desk_in}
 use Rattle.ssim_program.specs.internal.Take.{TakesTexts}
 use Rattle.ssim_program.specs.Files.{Files, Kept, file_of, with_kept}
 use Rattle.ssim_command_line.specs.Line.{Text}
-use Rattle.ssim_program.specs.Made.{ReadsBase}
+use Rattle.ssim_program.specs.Made.{HasFile, ReadsFile, base_in}
 use Rattle.ssim_program.specs.Offices.{Event, StartKept, TakeKept, ReceiveKept, MergeKept, WithdrawKept, Unchanged, Copied, Came}
 use Rattle.ssim_program.specs.Offices.{Leaves, Origin, Was, Started, Took, Merged, Withdrew, Given, origin_of}
 use Rattle.ssim_program.specs.Offices.{IsReceived, TookSome, origin_of_refused}
@@ -19,21 +21,38 @@ use Rattle.ssim_program.specs.Withdrawing.{WithdrawsFrom}
 use Rattle.ssim_program.specs.Receiving.{Receipt, ReceivesEach, received_files, refused_texts}
 use Rattle.ssim_program.proofs.Taking.{are_taken}
 
+-- a base was read: its records from a data set, its rows from a station table
+pub record IsBaseFrom (files : Option Files) (dataset stations : Text) (base : BaseSeen) : Type 0 where
+  pub notes : List Note
+  pub read : ReadsFile files dataset (Ok (base.records, notes))
+  pub table : List ℕ
+  pub has : HasFile files stations table
+  pub spells : SpellsTable base.rows table
+
+pub read_from : (files : Option Files) (dataset stations : Text) (base : BaseSeen) → base_in files dataset stations (Ok base) → IsBaseFrom files dataset stations base
+read_from files dataset stations base (bytes, there, (table, has, (rows, spells, (set, read, is)))) = record {
+  notes = set.1;
+  read = subst (λ (rs : List Record). ReadsFile files dataset (Ok (rs, set.1))) (sym (ap (λ (b : BaseSeen). b.records) is)) read;
+  table = table;
+  has = has;
+  spells = subst (λ (rs : List Row). SpellsTable rs table) (sym (ap (λ (b : BaseSeen). b.rows) is)) spells;
+}
+
 -- what the file of a name is, by where it comes from
 abbrev pub Comes : Origin → Files → Option (List ℕ) → Type 0
 Comes (Was name) files file = file ≡ file_of files name
 Comes (Started dataset stations) files file =
-    (base : BaseSeen) × (notes : List Note) × ReadsBase (Some files) dataset stations base notes × IsBaseRecords base.records × (file ≡ Some (desk_file base []))
+    (base : BaseSeen) × base_in (Some files) dataset stations (Ok base) × IsBaseRecords base.records × (file ≡ Some (desk_file base []))
 Comes (Took desk texts) files file =
-    (before : DeskSeen) × (after : DeskSeen) × (printed : List ℕ) × ReadsDesk (Some files) desk before × TakesTexts (Some files) texts before after printed × AreRising after.held
+    (before : DeskSeen) × (after : DeskSeen) × (printed : List ℕ) × desk_in (Some files) desk (Ok before) × TakesTexts (Some files) texts before after printed × AreRising after.held
     × (file ≡ Some (desk_file after.base after.held))
 Comes (TookSome desk names receipts) files file =
-    (before : DeskSeen) × (after : DeskSeen) × ReadsDesk (Some files) desk before × ReceivesEach (Some files) names before receipts after × AreRising after.held × (file ≡ Some (desk_file after.base after.held))
+    (before : DeskSeen) × (after : DeskSeen) × desk_in (Some files) desk (Ok before) × ReceivesEach (Some files) names before receipts after × AreRising after.held × (file ≡ Some (desk_file after.base after.held))
 Comes (Merged one other) files file =
-    (mine : DeskSeen) × (theirs : DeskSeen) × (after : DeskSeen) × ReadsDesk (Some files) one mine × ReadsDesk (Some files) other theirs × IsMergeOf mine theirs after × AreRising after.held
+    (mine : DeskSeen) × (theirs : DeskSeen) × (after : DeskSeen) × desk_in (Some files) one (Ok mine) × desk_in (Some files) other (Ok theirs) × IsMergeOf mine theirs after × AreRising after.held
     × (file ≡ Some (desk_file after.base after.held))
 Comes (Withdrew desk references) files file =
-    (before : DeskSeen) × (after : DeskSeen) × (printed : List ℕ) × ReadsDesk (Some files) desk before × WithdrawsFrom references before after printed × AreRising after.held
+    (before : DeskSeen) × (after : DeskSeen) × (printed : List ℕ) × desk_in (Some files) desk (Ok before) × WithdrawsFrom references before after printed × AreRising after.held
     × (file ≡ Some (desk_file after.base after.held))
 Comes (Given bytes) files file = file ≡ Some bytes
 
@@ -90,9 +109,9 @@ received_comes refused desk out names receipts old new name (after, (before, rea
         written_over out name bytes old mid new (TookSome desk names receipts) (origin_of_refused (Some other) texts name) (same_some new ((out, bytes) ∷ mid) all) desk_comes (written other name texts old mid (Given texts) refl refl)
 
 pub comes : (event : Event) (old new : Files) (name : Text) → Leaves event old new → Comes (origin_of event name) old (file_of new name)
-comes (StartKept dataset stations out) old new name (acts, (_, may, (base, (notes, read), (records, are))), whole, is) =
+comes (StartKept dataset stations out) old new name (acts, (_, may, (base, read, (records, are))), whole, is) =
     let bytes = desk_file base [] in
-    written out name bytes old new (Started dataset stations) (with_file out bytes acts old new (ap kept_by are) is) (base, notes, read, records, refl)
+    written out name bytes old new (Started dataset stations) (with_file out bytes acts old new (ap kept_by are) is) (base, read, records, refl)
 comes (TakeKept desk out texts) old new name (acts, (_, may, (before, read, takes)), whole, is) =
     let taken = are_taken (Some old) out texts before acts takes whole in
     let bytes = desk_file taken.after.base taken.after.held in

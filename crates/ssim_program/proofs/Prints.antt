@@ -21,7 +21,7 @@ use Rattle.ssim_desk.specs.Meaning.{found_by, left_by}
 use Rattle.ssim_command_line.specs.Line.{Text, Texts, Withdraw, Show, History, Board, Calendar}
 use Rattle.ssim_command_line.specs.Line.{Findings, Export, Listing, Problems}
 use Rattle.ssim_program.specs.Acts.{Act, Print, printed_by}
-use Rattle.ssim_program.specs.Desks.{ReadsDesk, flight_date}
+use Rattle.ssim_program.specs.Desks.{desk_in, flight_date}
 use Rattle.ssim_program.specs.Files.{Files}
 use Rattle.std.specs.List.{flat_map}
 use Rattle.ssim_base.specs.Export.{line}
@@ -90,7 +90,7 @@ flights_once airline words flights others (_, _, (these, spelled, (_, here, is))
 
 module _ (no_two : NoTwoDesks) where
   -- equal files are read as one desk
-  one_desk : (files others : Files) (name another : Text) (desk other : DeskSeen) → IsSameFile files name others another → ReadsDesk (Some files) name desk → ReadsDesk (Some others) another other
+  one_desk : (files others : Files) (name another : Text) (desk other : DeskSeen) → IsSameFile files name others another → desk_in (Some files) name (Ok desk) → desk_in (Some others) another (Ok other)
       → (desk.base ≡ other.base) × (desk.held ≡ other.held)
   one_desk files others name another desk other (bytes, here, there) (mine, has, is) (theirs, has_too, are) =
       let same : theirs ≡ mine = same_some theirs mine (sym has_too.1 ∙ there ∙ sym here ∙ has.1) in

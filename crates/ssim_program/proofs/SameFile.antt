@@ -5,7 +5,7 @@ use Rattle.std.specs.Str.{bytes_eq}
 use Rattle.std.proofs.lemmas.List.Folds.{list_any-append}
 use Rattle.ssim_command_line.specs.Line.{Text}
 use Rattle.ssim_program.specs.Files.{Files}
-use Rattle.ssim_program.specs.Receiving.{IsApart}
+use Rattle.ssim_program.specs.Receiving.{IsAmong}
 
 -- the first i of a list and the next one
 first_ones : {A : Type 0} (xs : List A) (i : ℕ) (x : A) → slice_get xs i ≡ Some x → take (suc i) xs ≡ take i xs ++ x ∷ []
@@ -36,7 +36,7 @@ found p (y ∷ ys) (suc i) x is holds = second_of (p y) (list_any p ys) (found p
 
 -- the next name is not the file's
 pub none_more : (files : Option Files) (name : Text) (others : List Text) (i : ℕ) (other : Text) (same : Bool) → slice_get others i ≡ Some other → IfSome files (λ _. same ≡ bytes_eq name other) → same ≡ false
-    → IsApart files name (take i others) → IsApart files name (take (i + 1) others)
+    → IsAmong false files name (take i others) → IsAmong false files name (take (i + 1) others)
 none_more None name others i other same is by other_one none = tt
 none_more (Some all) name others i other same is by other_one none =
     let p = bytes_eq name in
@@ -49,7 +49,7 @@ found_there None name others i other same is by holds = tt
 found_there (Some all) name others i other same is by holds = sym (found (bytes_eq name) others i other is (sym by ∙ holds))
 
 -- none of all names is the file's
-pub none_of_all : (files : Option Files) (name : Text) (others some : List Text) → some ≡ others → IsApart files name some → IfSome files (λ _. false ≡ list_any (bytes_eq name) others)
+pub none_of_all : (files : Option Files) (name : Text) (others some : List Text) → some ≡ others → IsAmong false files name some → IfSome files (λ _. false ≡ list_any (bytes_eq name) others)
 none_of_all None name others some are none = tt
 none_of_all (Some all) name others some are none = sym (sym (ap (list_any (bytes_eq name)) are) ∙ none)
 

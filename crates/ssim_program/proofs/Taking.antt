@@ -7,7 +7,7 @@ use Rattle.ssim_program.specs.Acts.{Act, Print, Keep, Stop, is_whole, kept_by}
 use Rattle.ssim_program.specs.Answers.{take, take_each}
 use Rattle.ssim_program.specs.Places.{MayReplace}
 use Rattle.ssim_program.specs.declared.content_kind.ContentKind.TheVariants as kind
-use Rattle.ssim_program.specs.Desks.{ReadsDesk, RefusesFileText, TakesText}
+use Rattle.ssim_program.specs.Desks.{desk_in, text_taken}
 use Rattle.ssim_program.specs.Files.{Files}
 use Rattle.ssim_program.specs.World.{Acted, Does, World}
 use Rattle.ssim_program.specs.internal.Take.{TakesTexts}
@@ -22,18 +22,18 @@ module _ (files : Option Files) (out : Text) where
   no_memory (name ∷ names) desk = inl (inl (inl refl))
 
   -- a text is taken, its line is printed, and others are taken
-  pub one_text : (name : Text) (names : List Text) (desk mid : DeskSeen) (line : List ℕ) (w v u : World) (r : Result (Unit {0}) Refusal) → TakesText files name desk mid line
+  pub one_text : (name : Text) (names : List Text) (desk mid : DeskSeen) (line : List ℕ) (w v u : World) (r : Result (Unit {0}) Refusal) → text_taken files name desk (Ok (mid, line))
       → Acted (Print line) w v (Ok tt) → Does (take_each files out names mid) v u r → Does (take_each files out (name ∷ names) desk) w u r
   one_text name names desk mid line w v u r taken printed (acts, are, performed) =
       (Print line ∷ acts, inl ((mid, line), taken, (acts, are, refl)), inl (v, printed, performed))
 
   -- a text is refused
-  pub not_taken : (name : Text) (names : List Text) (desk : DeskSeen) (w v : World) (why : Refusal) → RefusesFileText files name desk why → v ≡ w
+  pub not_taken : (name : Text) (names : List Text) (desk : DeskSeen) (w v : World) (why : Refusal) → text_taken files name desk (Err why) → v ≡ w
       → Does (take_each files out (name ∷ names) desk) w v (Err why)
   not_taken name names desk w v why not_so same = refuses (take_each files out (name ∷ names) desk) w v why (inl not_so) same
 
   -- a line is not printed
-  pub not_printed : (name : Text) (names : List Text) (desk mid : DeskSeen) (line : List ℕ) (w v : World) (why : Refusal) → TakesText files name desk mid line
+  pub not_printed : (name : Text) (names : List Text) (desk mid : DeskSeen) (line : List ℕ) (w v : World) (why : Refusal) → text_taken files name desk (Ok (mid, line))
       → Acted (Print line) w v (Err why) → Does (take_each files out (name ∷ names) desk) w v (Err why)
   not_printed name names desk mid line w v why taken failed =
       (Print line ∷ Stop refused.Memory ∷ [], inl ((mid, line), taken, (Stop refused.Memory ∷ [], inr (refused.Memory, no_memory names mid, refl), refl)), inr (why, failed, refl))
@@ -67,7 +67,7 @@ module _ (files : Option Files) (out : Text) where
       absurd (true≢false (sym (sym (ap is_whole are) ∙ whole) ∙ ap is_whole is))
 
 -- the place is held and the desk read, and then texts are taken
-pub takes_then : (files : Option Files) (file out : Text) (names : List Text) (desk : DeskSeen) (r : Result (List Act) Refusal) → MayReplace files out kind.DeskFile → ReadsDesk files file desk
+pub takes_then : (files : Option Files) (file out : Text) (names : List Text) (desk : DeskSeen) (r : Result (List Act) Refusal) → MayReplace files out kind.DeskFile → desk_in files file (Ok desk)
     → take_each files out names desk r → take files file out names r
 takes_then files file out names desk (Ok acts) may read takes = (tt, may, (desk, read, takes))
 takes_then files file out names desk (Err why) may read takes = inr (tt, may, inr (desk, read, takes))

@@ -1,17 +1,21 @@
 -- A file that was opened is a desk file or a data set, by how it begins.
-use Rattle.std.proofs.Common.{◌≡◌, inl, inr, Option, Some, None, Result, Ok, Err, IfErr}
+use Rattle.std.proofs.Common.{◌≡◌, inl, inr, Option, Some, None, Result, Ok, Err, IfErr, IfOk}
 use Rattle.std.specs.Prelude.{IfSome}
 use Rattle.ssim_held.specs.Entries.{DeskSeen}
 use Rattle.ssim_command_line.specs.Line.{Text}
 use Rattle.ssim_records.specs.Device.{Reader}
-use Rattle.ssim_program.specs.Desks.{RefusesDeskFile}
+use Rattle.ssim_program.specs.Desks.{desk_in}
 use Rattle.ssim_program.specs.Files.{Files}
 use Rattle.ssim_program.specs.Made.{RefusesFile}
-use Rattle.ssim_program.specs.Timetables.{BeginsAs, RefusesTimetable}
+use Rattle.ssim_program.specs.Timetables.{BeginsAs, ReadsTimetable, RefusesTimetable}
 use Rattle.ssim_program.specs.declared.explain.file_kind.FileKind.TheVariants as kind
 use Rattle.ssim_program.specs.declared.refusal.Refusal.{Refusal}
 
-pub refuses_desk : (files : Option Files) (name : Text) (result : Result DeskSeen Refusal) → BeginsAs kind.Desk files name → IfErr result (RefusesDeskFile files name) → IfErr result (RefusesTimetable files name)
+pub reads_desk : (files : Option Files) (name : Text) (result : Result DeskSeen Refusal) → BeginsAs kind.Desk files name → IfOk result (λ desk. desk_in files name (Ok desk)) → IfOk result (ReadsTimetable files name)
+reads_desk files name (Ok desk) begins read = inl (begins, read)
+reads_desk files name (Err refusal) begins read = tt
+
+pub refuses_desk : (files : Option Files) (name : Text) (result : Result DeskSeen Refusal) → BeginsAs kind.Desk files name → IfErr result (λ why. desk_in files name (Err why)) → IfErr result (RefusesTimetable files name)
 refuses_desk files name (Ok desk) begins refuses = tt
 refuses_desk files name (Err refusal) begins refuses = inr (inl (begins, refuses))
 

@@ -1,6 +1,6 @@
 -- A file that a command holds stays as the command read it. So what holds of a history with one
 -- command holds of each command in turn.
-use Rattle.std.proofs.Common.{◌≡◌, ◌∙◌, ◌⊎◌, ◌↔◌, ◌==◌, inl, inr, ℕ, Bool, true, false, if◌then◌else◌, List, [], ◌∷◌, ◌++◌, Option, Some, None, refl, sym, ap, subst}
+use Rattle.std.proofs.Common.{◌≡◌, ◌∙◌, ◌⊎◌, ◌↔◌, ◌==◌, inl, inr, ℕ, Bool, true, false, if◌then◌else◌, List, [], ◌∷◌, ◌++◌, Option, Some, None, refl, sym, ap, subst, Ok}
 use Rattle.std.proofs.lemmas.Slice.Eq.{bytes_eq-Decides}
 use Rattle.std.specs.Str.{bytes_eq}
 use Rattle.ssim_text.specs.Message.{MessageValue}
@@ -8,7 +8,7 @@ use Rattle.ssim_text.specs.declared.reference.Reference.{Reference}
 use Rattle.ssim_held.specs.Entries.{DeskSeen, state_of}
 use Rattle.ssim_held.specs.Held.{Holds as HoldsMessage}
 use Rattle.ssim_command_line.specs.Line.{Text}
-use Rattle.ssim_program.specs.Desks.{ReadsDesk}
+use Rattle.ssim_program.specs.Desks.{desk_in}
 use Rattle.ssim_program.specs.Files.{Files, file_of}
 use Rattle.ssim_program.specs.Offices.{Began, Bringing, Brought, BroughtBy, Event, HoldsWhatWasBrought, IsIn, Origin, Then, origin_of}
 use Rattle.ssim_program.specs.Offices as office
@@ -123,7 +123,7 @@ takes_turns events files earlier n name bytes read allowed is = elim allowed.1.0
 -- ---- what one command brings
 
 -- a desk is read of a file with the same bytes
-reads_same : (one other : Files) (name another : Text) (desk : DeskSeen) → file_of other another ≡ file_of one name → ReadsDesk (Some one) name desk → ReadsDesk (Some other) another desk
+reads_same : (one other : Files) (name another : Text) (desk : DeskSeen) → file_of other another ≡ file_of one name → desk_in (Some one) name (Ok desk) → desk_in (Some other) another (Ok desk)
 reads_same one other name another desk same (bytes, has, is) = (bytes, (has.0, same ∙ has.1), is)
 
 -- a command brings no less if more was brought before
@@ -141,7 +141,7 @@ brings_more (office.Given bytes) read less more r m each b = b
 
 -- of desk files that the command read it brings no less either, if a desk was read of what it keeps
 brings_read : (origin : Origin) (read : Files) (file : Option (List ℕ)) (desk : DeskSeen) (less more : Bringing) (r : Reference) (m : MessageValue) → origins.Comes origin read file
-    → ((other : Text) → file ≡ file_of read other → ReadsDesk (Some read) other desk) → ((other : Text) (x : DeskSeen) → ReadsDesk (Some read) other x → less other r m → more other r m)
+    → ((other : Text) → file ≡ file_of read other → desk_in (Some read) other (Ok desk)) → ((other : Text) (x : DeskSeen) → desk_in (Some read) other (Ok x) → less other r m → more other r m)
     → BroughtBy origin read less r m → BroughtBy origin read more r m
 brings_read (office.Was other) read file desk less more r m c same each b = each other desk (same other c) b
 brings_read (office.Started dataset stations) read file desk less more r m c same each b = b
@@ -194,17 +194,17 @@ allowed_before events files (step ∷ later) earlier allowed = allowed_before ev
 
 module _ (holds_brought : HoldsWhatWasBrought) where
   -- the desk that is read of a file holds what the file holds
-  in_file : (files : Files) (name : Text) (desk : DeskSeen) (r : Reference) (m : MessageValue) → ReadsDesk (Some files) name desk → HoldsMessage (state_of desk) r m ↔ Brought (Began files) name r m
+  in_file : (files : Files) (name : Text) (desk : DeskSeen) (r : Reference) (m : MessageValue) → desk_in (Some files) name (Ok desk) → HoldsMessage (state_of desk) r m ↔ Brought (Began files) name r m
   in_file files name desk r m reads = holds_brought (Began files) name desk tt reads r m
 
   -- what a file holds, a desk holds that is read of it
-  of_file : (files : Files) (name : Text) (r : Reference) (m : MessageValue) → Brought (Began files) name r m → (desk : DeskSeen) × ReadsDesk (Some files) name desk × HoldsMessage (state_of desk) r m
+  of_file : (files : Files) (name : Text) (r : Reference) (m : MessageValue) → Brought (Began files) name r m → (desk : DeskSeen) × desk_in (Some files) name (Ok desk) × HoldsMessage (state_of desk) r m
   of_file files name r m (bytes, is, (base, held, short, file, holds)) = (record { base = base; held = held; applied = 0 }, (bytes, (short, is), file), holds)
 
   module _ (events : ℕ → Event) (files : Files) (name : Text) (r : Reference) (m : MessageValue) where
     -- after these steps, whichever desk is read of the file holds what came in turn
     abbrev Holding : List Step → Type 0
-    Holding steps = (desk : DeskSeen) → ReadsDesk (Some (files_after files steps)) name desk → HoldsMessage (state_of desk) r m ↔ BroughtInTurn events files steps name r m
+    Holding steps = (desk : DeskSeen) → desk_in (Some (files_after files steps)) name (Ok desk) → HoldsMessage (state_of desk) r m ↔ BroughtInTurn events files steps name r m
 
     -- one command more
     module _ (n : ℕ) (bytes : List ℕ) (earlier : List Step) (allowed : AreAllowed events files (Keeps n name bytes ∷ earlier)) (before : Holding earlier) where
@@ -218,7 +218,7 @@ module _ (holds_brought : HoldsWhatWasBrought) where
       origin = origin_of (events n) name
 
       -- the file of this name that the command read holds what came in turn
-      same_read : (x : DeskSeen) → ReadsDesk (Some read) name x → Brought (Began read) name r m ↔ turn r m
+      same_read : (x : DeskSeen) → desk_in (Some read) name (Ok x) → Brought (Began read) name r m ↔ turn r m
       same_read x reads =
           let current = takes_turns events files earlier n name bytes reads.0 allowed reads.1.1 in
           let now = before x (reads.0, (reads.1.0, current), reads.2) in
@@ -235,13 +235,13 @@ module _ (holds_brought : HoldsWhatWasBrought) where
               (same_read desk.0 desk.1).0 named
           by false apart b = b
 
-      back : (other : Text) (x : DeskSeen) → ReadsDesk (Some read) other x → BroughtToRead name turn read other r m → Brought (Began read) other r m
+      back : (other : Text) (x : DeskSeen) → desk_in (Some read) other (Ok x) → BroughtToRead name turn read other r m → Brought (Began read) other r m
       back other x reads = by (bytes_eq other name) refl
         where
           by : (t : Bool) → bytes_eq other name ≡ t → Chosen t turn (Brought (Began read) other) r m → Brought (Began read) other r m
           by true same b =
               let is = same_name other name same in
-              subst (λ (y : Text). Brought (Began read) y r m) (sym is) ((same_read x (subst (λ (y : Text). ReadsDesk (Some read) y x) is reads)).1 b)
+              subst (λ (y : Text). Brought (Began read) y r m) (sym is) ((same_read x (subst (λ (y : Text). desk_in (Some read) y (Ok x)) is reads)).1 b)
           by false apart b = b
 
       -- what the command brings comes in turn
@@ -254,7 +254,7 @@ module _ (holds_brought : HoldsWhatWasBrought) where
       kept desk reads =
           let made = allowed.1.1 in
           let file = made.2 ∙ sym (here name name bytes (files_after files earlier) (itself name)) in
-          let of_after : ReadsDesk (Some made.0) name desk = reads_same ((name, bytes) ∷ files_after files earlier) made.0 name name desk file reads in
+          let of_after : desk_in (Some made.0) name (Ok desk) = reads_same ((name, bytes) ∷ files_after files earlier) made.0 name name desk file reads in
           let held = holds_brought (Then (Began read) (events n) made.0) name desk (tt, made.1) of_after r m in
           let comes = origins.comes (events n) read made.0 name made.1 in (
             λ h. brought_on (held.0 h),

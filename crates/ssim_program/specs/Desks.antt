@@ -23,7 +23,7 @@ use Rattle.ssim_desk.specs.declared.steps.Answer.TheVariants.{Merged}
 use Rattle.ssim_program.specs.Files.{Files}
 use Rattle.ssim_command_line.specs.Line.{Text}
 use Rattle.ssim_program.specs.Answer.{Answer, Gives, OneOr, OrElse, Require, ◌>>=◌}
-use Rattle.ssim_program.specs.Made.{HasFile, RefusesLoad}
+use Rattle.ssim_program.specs.Made.{file_in}
 use Rattle.ssim_program.specs.print.PrintedLine.{printed_text}
 use Rattle.ssim_program.specs.declared.print.printed_line.PrintedLine.{PrintedLine}
 use Rattle.ssim_program.specs.declared.print.printed_line.PrintedLine.TheVariants as printed
@@ -32,22 +32,21 @@ use Rattle.ssim_program.specs.declared.refusal.Refusal.TheVariants as refused
 
 -- ---- desk files
 
--- the file of this name is the desk file of this desk
-abbrev pub ReadsDesk : Option Files → Text → DeskSeen → Type 0
-ReadsDesk files name desk =
-    (bytes : List ℕ) × HasFile files name bytes × IsDeskFile bytes desk.base desk.held
-
 -- the bytes are no desk file
 abbrev pub IsNoDeskFile : List ℕ → Type 0
 IsNoDeskFile bytes = (base : BaseSeen) (entries : List Entry) → IsDeskFile bytes base entries → ⊥
 
--- why no desk is read of a file: the file is not loaded; or it is the file of no desk, and the
--- refusal is 62
-abbrev pub RefusesDeskFile : Option Files → Text → Refusal → Type 0
-RefusesDeskFile files name refusal =
-    RefusesLoad files name refusal
-    ⊎ ((bytes : List ℕ) × HasFile files name bytes × IsNoDeskFile bytes × (offset : ℕ)
-    × (refusal ≡ refused.Desk (desk_fault.File offset)))
+-- the desk of a desk file, or 62
+abbrev pub desk_of_file : List ℕ → Answer DeskSeen
+desk_of_file bytes (Ok desk) = IsDeskFile bytes desk.base desk.held
+desk_of_file bytes (Err why) =
+    IsNoDeskFile bytes × (offset : ℕ) × (why ≡ refused.Desk (desk_fault.File offset))
+
+-- the desk in a file
+abbrev pub desk_in : Option Files → Text → Answer DeskSeen
+desk_in files name = do
+  bytes ← file_in files name
+  desk_of_file bytes
 
 -- the line with the number of messages that a desk holds
 abbrev pub held_line : ℕ → List ℕ
@@ -72,20 +71,18 @@ pub record IsTaken (before : DeskSeen) (text : List ℕ) (answer : Took) (refere
   pub takes : Takes (state_of before) text (take_answer (Ok (answer, reference))) (map_of after.held)
   pub base : after.base ≡ before.base
 
--- the text in the file of this name is taken, and its line is printed
-abbrev pub TakesText : Option Files → Text → DeskSeen → DeskSeen → List ℕ → Type 0
-TakesText files name before after printed =
-    (text : List ℕ) × HasFile files name text × (answer : Took) × (reference : Reference)
-    × IsTaken before text answer reference after
-    × (printed ≡ took_line answer reference)
+-- a text is taken: the desk afterwards, and the line
+abbrev pub taken : List ℕ → DeskSeen → Answer (DeskSeen × List ℕ)
+taken text desk (Ok made) = (answer : Took) × (reference : Reference)
+    × IsTaken desk text answer reference made.0 × (made.1 ≡ took_line answer reference)
+taken text desk (Err why) =
+    (fault : DeskFault) × RefusesText (state_of desk) text fault × (why ≡ refused.Desk fault)
 
--- why the text in the file of this name is refused: the file is not loaded; or the desk refuses the
--- text
-abbrev pub RefusesFileText : Option Files → Text → DeskSeen → Refusal → Type 0
-RefusesFileText files name desk refusal =
-    RefusesLoad files name refusal
-    ⊎ ((text : List ℕ) × HasFile files name text × (fault : DeskFault)
-    × RefusesText (state_of desk) text fault × (refusal ≡ refused.Desk fault))
+-- the text in a file is taken
+abbrev pub text_taken : Option Files → Text → DeskSeen → Answer (DeskSeen × List ℕ)
+text_taken files name desk = do
+  text ← file_in files name
+  taken text desk
 
 -- ---- two desks
 
@@ -94,11 +91,11 @@ pub record IsMergeOf (mine theirs after : DeskSeen) : Type 0 where
   pub merges : Merges (state_of mine) (state_of theirs) Merged (map_of after.held)
   pub base : after.base ≡ mine.base
 
--- why two desks are not merged
-abbrev pub RefusesMerge : DeskSeen → DeskSeen → Refusal → Type 0
-RefusesMerge mine theirs refusal =
-    (fault : DeskFault) × RefusesDesk (state_of mine) (state_of theirs) fault
-    × (refusal ≡ refused.Desk fault)
+-- two desks are merged
+abbrev pub merged : DeskSeen → DeskSeen → Answer DeskSeen
+merged mine theirs (Ok after) = IsMergeOf mine theirs after
+merged mine theirs (Err why) = (fault : DeskFault)
+    × RefusesDesk (state_of mine) (state_of theirs) fault × (why ≡ refused.Desk fault)
 
 -- ---- words
 
@@ -113,20 +110,3 @@ flight_date airline flight date = do
   day ← OrElse (day_in date) (refused.Value value_fault.BadDate)
   here ← Require (designator.airline ≡ airline) other_airline
   Gives (designator, day)
-
--- ---- answers
-
--- the desk in a file
-abbrev pub desk_in : Option Files → Text → Answer DeskSeen
-desk_in files name (Ok desk) = ReadsDesk files name desk
-desk_in files name (Err why) = RefusesDeskFile files name why
-
--- The text in the file of this name is taken: the desk afterwards, and the line.
-abbrev pub text_taken : Option Files → Text → DeskSeen → Answer (DeskSeen × List ℕ)
-text_taken files name desk (Ok taken) = TakesText files name desk taken.0 taken.1
-text_taken files name desk (Err why) = RefusesFileText files name desk why
-
--- two desks are merged
-abbrev pub merged : DeskSeen → DeskSeen → Answer DeskSeen
-merged mine theirs (Ok after) = IsMergeOf mine theirs after
-merged mine theirs (Err why) = RefusesMerge mine theirs why

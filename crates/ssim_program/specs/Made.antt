@@ -7,7 +7,7 @@ use Rattle.ssim_records.specs.declared.fault.RecordFault.TheVariants as record_f
 use Rattle.ssim_records.specs.declared.record.Record.{Record}
 use Rattle.ssim_base.specs.Base.{Outcome, base_fault_number}
 use Rattle.ssim_base.specs.Fault.{base_fault_name, base_fault_place}
-use Rattle.ssim_base.specs.BaseSeen.{AreFlights, BaseSeen}
+use Rattle.ssim_base.specs.BaseSeen.{AreFlights, BaseSeen, base_with}
 use Rattle.ssim_base.specs.Export.{Frame, chapter7, line}
 use Rattle.ssim_base.specs.ReadBack.{HasFrame}
 use Rattle.ssim_base.specs.Reading.{IsWholeOf}
@@ -23,7 +23,7 @@ use Rattle.ssim_base.specs.declared.stations.StationFault.{StationFault}
 use Rattle.ssim_text.specs.Left.{lines_left}
 use Rattle.ssim_program.specs.Files.{Files, IsOpened, file_of}
 use Rattle.ssim_command_line.specs.Line.{Text}
-use Rattle.ssim_program.specs.Answer.{Answer}
+use Rattle.ssim_program.specs.Answer.{Answer, Gives, ◌>>=◌}
 use Rattle.ssim_program.specs.print.PrintedLine.{printed_text}
 use Rattle.ssim_program.specs.print.Refusal.{IsMemory, IsOfFile, fault_text}
 use Rattle.ssim_program.specs.declared.refusal.Refusal.{Refusal}
@@ -120,30 +120,12 @@ RefusesFile files name refusal =
     ⊎ ((fault : BaseFault) × (refusal ≡ refused.DataSet fault) × IsOfBytes fault
     × ReadsFile files name (Err fault))
 
--- the file of this name is a station table of these rows
-abbrev pub ReadsTable : Option Files → Text → List Row → Type 0
-ReadsTable files name rows = (bytes : List ℕ) × HasFile files name bytes × SpellsTable rows bytes
-
--- a base: the data set in one file, the station table in another
-abbrev pub ReadsBase : Option Files → Text → Text → BaseSeen → List Note → Type 0
-ReadsBase files dataset stations base notes =
-    ReadsFile files dataset (Ok (base.records, notes)) × ReadsTable files stations base.rows
-
--- Why no base is read from two files: the data set is not loaded; or the station table is not
--- loaded; or its lines are refused; or the data set is refused.
-abbrev pub RefusesBase : Option Files → Text → Text → Refusal → Type 0
-RefusesBase files dataset stations refusal =
-    RefusesLoad files dataset refusal
-    ⊎ (((bytes : List ℕ) × HasFile files dataset bytes) × RefusesLoad files stations refusal)
-    ⊎ (((bytes : List ℕ) × HasFile files dataset bytes) × (table : List ℕ)
-    × HasFile files stations table
-    × (fault : StationFault) × (refusal ≡ refused.Stations fault)
-    × NamesLine (lines_left table) fault)
-    ⊎ (((rows : List Row) × ReadsTable files stations rows)
-    × (fault : BaseFault) × (refusal ≡ refused.DataSet fault) × IsOfBytes fault
-    × ReadsFile files dataset (Err fault))
-
 -- ---- answers
+
+-- the bytes of a file
+abbrev pub file_in : Option Files → Text → Answer (List ℕ)
+file_in files name (Ok bytes) = HasFile files name bytes
+file_in files name (Err why) = RefusesLoad files name why
 
 -- the records of the data set in a file, and the notes on it
 abbrev pub data_set_in : Option Files → Text → Answer (List Record × List Note)
@@ -155,8 +137,17 @@ abbrev pub problems_in : Option Files → Text → Answer Problems
 problems_in files name (Ok problems) = FindsProblems files name problems
 problems_in files name (Err why) = RefusesLoad files name why
 
--- the base of a data set and a station table
+-- the rows of a station table, or its first line that is none
+abbrev pub rows_in : List ℕ → Answer (List Row)
+rows_in table (Ok rows) = SpellsTable rows table
+rows_in table (Err why) =
+    (fault : StationFault) × (why ≡ refused.Stations fault) × NamesLine (lines_left table) fault
+
+-- The base of a data set and a station table. The table is read before the data set is refused.
 abbrev pub base_in : Option Files → Text → Text → Answer BaseSeen
-base_in files dataset stations (Ok base) =
-    (notes : List Note) × ReadsBase files dataset stations base notes
-base_in files dataset stations (Err why) = RefusesBase files dataset stations why
+base_in files dataset stations = do
+  there ← file_in files dataset
+  table ← file_in files stations
+  rows ← rows_in table
+  set ← data_set_in files dataset
+  Gives (base_with set.0 rows)

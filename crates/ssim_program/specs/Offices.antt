@@ -9,7 +9,7 @@ use Rattle.ssim_text.specs.declared.reference.Reference.{Reference}
 use Rattle.ssim_held.specs.Entries.{DeskSeen, Entry, map_of, state_of}
 use Rattle.ssim_held.specs.File.{IsDeskFile}
 use Rattle.ssim_held.specs.Held.{Holds, Says}
-use Rattle.ssim_program.specs.Desks.{ReadsDesk}
+use Rattle.ssim_program.specs.Desks.{desk_in}
 use Rattle.ssim_program.specs.Acts.{Act, Acts, is_whole, kept_by, printed_by}
 use Rattle.ssim_program.specs.Answer.{Answer}
 use Rattle.ssim_program.specs.Answers.{answers, merge, start, take, withdraw}
@@ -152,14 +152,14 @@ IsSaid files base (name ∷ names) reference message =
 -- one of the texts says the message to the desk in the file of this name
 abbrev pub IsSaidTo : Files → Text → List Text → Reference → MessageValue → Type 0
 IsSaidTo files name texts reference message =
-    (desk : DeskSeen) × ReadsDesk (Some files) name desk
+    (desk : DeskSeen) × desk_in (Some files) name (Ok desk)
     × IsSaid files desk.base texts reference message
 
 -- one of the texts that have such receipts says the message to the desk in the file of this name
 abbrev pub IsAcceptedBy : Files → Text → List Text → List Receipt → Reference → MessageValue
     → Type 0
 IsAcceptedBy files name names receipts reference message =
-    (desk : DeskSeen) × ReadsDesk (Some files) name desk
+    (desk : DeskSeen) × desk_in (Some files) name (Ok desk)
     × IsAccepted desk.base (texts_received files names) receipts reference message
 
 -- which messages, each under its reference, were brought to the files of which names
@@ -220,7 +220,7 @@ BeganFrom (Then history event files) name dataset stations =
 abbrev pub HoldsWhatWasBrought : Type 0
 HoldsWhatWasBrought =
     (history : History) (name : Text) (desk : DeskSeen) → Happened history
-    → ReadsDesk (Some (files_of history)) name desk
+    → desk_in (Some (files_of history)) name (Ok desk)
     → (reference : Reference) (message : MessageValue)
     → Holds (state_of desk) reference message ↔ Brought history name reference message
 

@@ -26,7 +26,7 @@ use Rattle.ssim_program.specs.Answer.{Answer, Finds, ◌>>=◌}
 use Rattle.ssim_program.specs.Desks.{IsTaken, desk_in, took_printed}
 use Rattle.ssim_program.specs.Files.{Files, file_of}
 use Rattle.ssim_program.specs.Made.{HasFile, IsMissing, file_limit}
-use Rattle.ssim_program.specs.Places.{MayReplace, RefusesHold}
+use Rattle.ssim_program.specs.Places.{place_in}
 use Rattle.ssim_program.specs.print.Names.{printed_name}
 use Rattle.ssim_program.specs.print.PrintedLine.{printed_text}
 use Rattle.ssim_program.specs.print.Refusal.{IsOfFile, place_text, refusal_head}
@@ -164,41 +164,29 @@ refused_text _ = []
 abbrev pub refused_texts : List Receipt → List ℕ
 refused_texts receipts = flat_map refused_text receipts
 
--- the file for refused texts is none of these, if the contract can see the files
-abbrev pub IsApart : Option Files → Text → List Text → Type 0
-IsApart files refused names = IfSome files (λ all. list_any (bytes_eq refused) names ≡ false)
+-- whether the file for refused texts is one of these, if the contract can see the files
+abbrev pub IsAmong : Bool → Option Files → Text → List Text → Type 0
+IsAmong answer files refused names =
+    IfSome files (λ all. list_any (bytes_eq refused) names ≡ answer)
 
--- the file for refused texts is one of these, if the contract can see the files
-abbrev pub IsAmong : Option Files → Text → List Text → Type 0
-IsAmong files refused names = IfSome files (λ all. list_any (bytes_eq refused) names ≡ true)
+-- the file for refused texts is none of these, or 93
+abbrev pub apart_from : Option Files → List Text → Text → Answer (Unit {0})
+apart_from files names refused (Ok x) = IsAmong false files refused names
+apart_from files names refused (Err why) =
+    IsOfFile 93 (codes "Occupied") refused why × IsAmong true files refused names
 
--- The files that `receive` keeps may be replaced. The file for refused texts is none that it reads,
--- and not the desk's.
-abbrev pub MayReceive : Option Files → Option Text → Text → Text → List Text → Type 0
-MayReceive files None file out names = MayReplace files out kind.DeskFile
-MayReceive files (Some refused) file out names =
-    MayReplace files out kind.DeskFile × IsApart files refused (out ∷ file ∷ names)
-    × MayReplace files refused kind.RefusedTexts
+-- the place of the file for refused texts, which is none that is read or kept
+abbrev pub refused_place : Option Files → List Text → Text → Answer (Unit {0})
+refused_place files names refused = do
+  apart ← apart_from files names refused
+  place_in files refused kind.RefusedTexts
 
--- Why the file for refused texts is not held: it is one that `receive` reads or keeps, and the
--- refusal is 93 with its name; or it is none, and the store does not hold it.
-abbrev pub RefusesRefused : Option Files → Text → List Text → Refusal → Type 0
-RefusesRefused files refused names refusal =
-    (IsOfFile 93 (codes "Occupied") refused refusal × IsAmong files refused names)
-    ⊎ (IsApart files refused names × RefusesHold files refused kind.RefusedTexts refusal)
-
--- why the files that `receive` keeps are not held: first the desk's, then that of refused texts
-abbrev pub RefusesPlaces : Option Files → Option Text → Text → Text → List Text → Refusal → Type 0
-RefusesPlaces files None file out names refusal = RefusesHold files out kind.DeskFile refusal
-RefusesPlaces files (Some refused) file out names refusal =
-    RefusesHold files out kind.DeskFile refusal
-    ⊎ (MayReplace files out kind.DeskFile
-    × RefusesRefused files refused (out ∷ file ∷ names) refusal)
-
--- the places of the files that `receive` keeps
+-- the places of the files that `receive` keeps: first the desk's, then that of refused texts
 abbrev pub places_in : Option Files → Option Text → Text → Text → List Text → Answer (Unit {0})
-places_in files refused file out names (Ok x) = MayReceive files refused file out names
-places_in files refused file out names (Err why) = RefusesPlaces files refused file out names why
+places_in files None file out names = place_in files out kind.DeskFile
+places_in files (Some refused) file out names = do
+  place ← place_in files out kind.DeskFile
+  refused_place files (out ∷ file ∷ names) refused
 
 -- The desk in a file receives the files of these names: what became of each text, and the desk
 -- afterwards. Its messages are in order of reference.

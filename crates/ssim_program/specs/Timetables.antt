@@ -11,7 +11,7 @@ use Rattle.ssim_records.specs.declared.record.Record.TheVariants.{Header, Carrie
 use Rattle.ssim_held.specs.Entries.{DeskSeen}
 use Rattle.ssim_command_line.specs.Line.{Text}
 use Rattle.ssim_program.specs.Answer.{Answer, Finds}
-use Rattle.ssim_program.specs.Desks.{ReadsDesk, RefusesDeskFile}
+use Rattle.ssim_program.specs.Desks.{desk_in}
 use Rattle.ssim_program.specs.Files.{Files, file_of}
 use Rattle.ssim_program.specs.Made.{ReadsFile, RefusesFile, RefusesLoad}
 use Rattle.ssim_program.specs.declared.explain.file_kind.FileKind.{FileKind}
@@ -39,7 +39,7 @@ ReadsAsDesk files name desk =
 -- the desk's; or it is a data set, and the desk is the data set's.
 abbrev pub ReadsTimetable : Option Files → Text → DeskSeen → Type 0
 ReadsTimetable files name desk =
-    (BeginsAs kind.Desk files name × ReadsDesk files name desk)
+    (BeginsAs kind.Desk files name × desk_in files name (Ok desk))
     ⊎ (BeginsAs kind.DataSet files name × ReadsAsDesk files name desk)
 
 -- Why no timetable is read of a file: the file is not loaded; or it begins as a desk file, and is
@@ -47,7 +47,7 @@ ReadsTimetable files name desk =
 abbrev pub RefusesTimetable : Option Files → Text → Refusal → Type 0
 RefusesTimetable files name refusal =
     RefusesLoad files name refusal
-    ⊎ (BeginsAs kind.Desk files name × RefusesDeskFile files name refusal)
+    ⊎ (BeginsAs kind.Desk files name × desk_in files name (Err refusal))
     ⊎ (BeginsAs kind.DataSet files name × RefusesFile files name refusal)
 
 -- the desk whose timetable the file of this name has

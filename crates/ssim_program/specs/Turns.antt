@@ -2,14 +2,14 @@
 -- what another has kept. Nothing here is about code: these are the steps that commands take, one
 -- after another, and what follows if each step was allowed.
 use Rattle.std.specs.Prelude.{◌≡◌, ◌≢◌, ◌⊎◌, ◌↔◌, ◌==◌, ℕ, Bool, true, false, if◌then◌else◌}
-use Rattle.std.specs.Prelude.{List, [], ◌∷◌, ◌++◌, Option, Some, None}
+use Rattle.std.specs.Prelude.{List, [], ◌∷◌, ◌++◌, Option, Some, None, Ok}
 use Rattle.std.specs.Str.{bytes_eq}
 use Rattle.ssim_text.specs.Message.{MessageValue}
 use Rattle.ssim_text.specs.declared.reference.Reference.{Reference}
 use Rattle.ssim_held.specs.Entries.{DeskSeen, state_of}
 use Rattle.ssim_held.specs.Held.{Holds as HoldsMessage}
 use Rattle.ssim_command_line.specs.Line.{Text}
-use Rattle.ssim_program.specs.Desks.{ReadsDesk}
+use Rattle.ssim_program.specs.Desks.{desk_in}
 use Rattle.ssim_program.specs.Files.{Files, file_of}
 use Rattle.ssim_program.specs.Offices.{Began, Bringing, Brought, BroughtBy, Event, IsIn, Leaves}
 use Rattle.ssim_program.specs.Offices.{Origin, origin_of}
@@ -138,7 +138,7 @@ BroughtInTurn events files (step ∷ earlier) name = BroughtInTurn events files 
 abbrev pub HoldsWhatCameInTurn : Type 0
 HoldsWhatCameInTurn =
     (events : ℕ → Event) (files : Files) (steps : List Step) (name : Text) (desk : DeskSeen)
-    → AreAllowed events files steps → ReadsDesk (Some (files_after files steps)) name desk
+    → AreAllowed events files steps → desk_in (Some (files_after files steps)) name (Ok desk)
     → (reference : Reference) (message : MessageValue)
     → HoldsMessage (state_of desk) reference message
     ↔ BroughtInTurn events files steps name reference message
@@ -177,7 +177,7 @@ NothingHeldIsLost =
     → AreAllowed events files (later ++ earlier)
     → AllLeaveMessage events name reference later
     → Brought (Began (files_after files earlier)) name reference message
-    → ReadsDesk (Some (files_after files (later ++ earlier))) name desk
+    → desk_in (Some (files_after files (later ++ earlier))) name (Ok desk)
     → HoldsMessage (state_of desk) reference message
 
 -- The command brings the message to the file of this name, by the files that it read: a text says it
@@ -196,5 +196,5 @@ NothingTakenIsLost =
     → AreAllowed events files (later ++ Keeps n name bytes ∷ earlier)
     → AllLeaveMessage events name reference later
     → Brings (events n) (read_by n files earlier) name reference message
-    → ReadsDesk (Some (files_after files (later ++ Keeps n name bytes ∷ earlier))) name desk
+    → desk_in (Some (files_after files (later ++ Keeps n name bytes ∷ earlier))) name (Ok desk)
     → HoldsMessage (state_of desk) reference message

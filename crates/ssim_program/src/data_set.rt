@@ -9,8 +9,8 @@ ghost use Rattle.ssim_base.specs.Reading.{IsReadAs};
 ghost use Rattle.ssim_base.specs.declared.fault.BaseFault.TheVariants as base_fault;
 ghost use Rattle.ssim_base.specs.declared.note.Note.{Note};
 ghost use Rattle.ssim_program.specs.Files.{Files, IsOpened};
-ghost use Rattle.ssim_program.specs.Made.{FindsProblems, HasFile, IsOfBytes, ReadsBase, ReadsFile};
-ghost use Rattle.ssim_program.specs.Made.{RefusesBase, RefusesFile, RefusesLoad, file_limit};
+ghost use Rattle.ssim_program.specs.Made.{FindsProblems, HasFile, IsOfBytes, ReadsFile};
+ghost use Rattle.ssim_program.specs.Made.{RefusesFile, RefusesLoad, base_in, file_limit};
 ghost use Rattle.ssim_program.specs.internal.DataSet.{SumsFile, IsUnread};
 
 use crate::refusal::Refusal;
@@ -210,9 +210,10 @@ pub(crate) fn load_base<S: Store>(
     stations: &str,
     store: &mut S,
 ) -> Result<(DataSet, Stations), Refusal>
-    ensures read { IfOk result (λ read. (notes : List Note)
-        × ReadsBase (S.files store.old) dataset.now stations.now (base_with read.0 read.1) notes) }
-    ensures refused { IfErr result (RefusesBase (S.files store.old) dataset.now stations.now) }
+    ensures read { IfOk result (λ read.
+        base_in (S.files store.old) dataset.now stations.now (Ok (base_with read.0 read.1))) }
+    ensures refused { IfErr result
+        (λ why. base_in (S.files store.old) dataset.now stations.now (Err why)) }
     ensures same { S.files store.new ≡ S.files store.old }
     ensures counted { S.failures store.new ≡ S.failures store.old }
 {

@@ -1,7 +1,7 @@
 //! The desk in a file.
 
-ghost use Rattle.std.specs.Prelude.{◌≡◌, IfErr, IfOk, IfSome, Option};
-ghost use Rattle.ssim_program.specs.Desks.{ReadsDesk, RefusesDeskFile};
+ghost use Rattle.std.specs.Prelude.{◌≡◌, Err, IfErr, IfOk, IfSome, Ok, Option};
+ghost use Rattle.ssim_program.specs.Desks.{desk_in};
 ghost use Rattle.ssim_program.specs.Files.{Files, IsOpened};
 
 use crate::data_set::{LIMIT, open_file};
@@ -18,8 +18,7 @@ pub(crate) fn open_holdings<S: Store>(
     name: &str,
     store: &mut S,
 ) -> Result<Holdings, Refusal>
-    ensures read { IfOk result (ReadsDesk (S.files store.old) name.now) }
-    ensures refused { IfErr result (RefusesDeskFile (S.files store.old) name.now) }
+    ensures answer { desk_in (S.files store.old) name.now result }
     ensures same { S.files store.new ≡ S.files store.old }
     ensures counted { S.failures store.new ≡ S.failures store.old }
 {
@@ -34,8 +33,7 @@ pub(crate) fn open_intake<S: Store>(
     name: &str,
     store: &mut S,
 ) -> Result<Intake, Refusal>
-    ensures read { IfOk result (ReadsDesk (S.files store.old) name.now) }
-    ensures refused { IfErr result (RefusesDeskFile (S.files store.old) name.now) }
+    ensures answer { desk_in (S.files store.old) name.now result }
     ensures same { S.files store.new ≡ S.files store.old }
     ensures counted { S.failures store.new ≡ S.failures store.old }
 {
@@ -52,10 +50,10 @@ pub(crate) fn read_desk<F: Source + Drop>(
     mut file: F,
 ) -> Result<Holdings, Refusal>
     ensures read { (files : Option Files) → IsOpened files name.now (F.state file).left
-        → IfOk result (ReadsDesk files name.now) }
+        → IfOk result (λ desk. desk_in files name.now (Ok desk)) }
     ensures refused { (files : Option Files) → IsOpened files name.now (F.state file).left
         → IfSome files (λ _. (other : F) → (F.state other).failures ≡ 0)
-        → IfErr result (RefusesDeskFile files name.now) }
+        → IfErr result (λ why. desk_in files name.now (Err why)) }
 {
     match Holdings::open(alloc, &mut file, LIMIT) {
         Ok(holdings) => Ok(holdings),

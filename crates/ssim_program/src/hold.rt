@@ -1,8 +1,8 @@
 //! The files that a command holds before it reads any, and keeps.
 
-ghost use Rattle.std.specs.Prelude.{◌≡◌, IfErr, IfOk, IsTrue};
+ghost use Rattle.std.specs.Prelude.{◌≡◌, Err, IfErr, IfOk, IsTrue, Ok};
 ghost use Rattle.ssim_program.specs.Acts.{Keep};
-ghost use Rattle.ssim_program.specs.Places.{MayReplace, RefusesHold};
+ghost use Rattle.ssim_program.specs.Places.{place_in};
 ghost use Rattle.ssim_program.specs.World.{Acted, world};
 ghost use Rattle.ssim_program.specs.print.Paper.{Paper};
 
@@ -23,8 +23,8 @@ pub(crate) fn hold<S: Store>(
     requires fresh { IsTrue (S.is_fresh store.now) }
     ensures fresh { IsTrue (S.is_fresh store.new) }
     ensures name { IfOk result (λ hold. S.Hold.file hold ≡ name.now) }
-    ensures held { IfOk result (λ _. MayReplace (S.files store.old) name.now kind) }
-    ensures refused { IfErr result (RefusesHold (S.files store.old) name.now kind) }
+    ensures held { IfOk result (λ _. place_in (S.files store.old) name.now kind (Ok tt)) }
+    ensures refused { IfErr result (λ why. place_in (S.files store.old) name.now kind (Err why)) }
     ensures same { S.files store.new ≡ S.files store.old }
     ensures counted { S.failures store.new ≡ S.failures store.old }
 {

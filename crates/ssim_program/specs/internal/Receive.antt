@@ -1,11 +1,11 @@
 -- What contracts see of receipts, and what is done while files are received.
-use Rattle.std.specs.Prelude.{◌≡◌, ℕ, List, [], ◌∷◌, ◌++◌, Option}
+use Rattle.std.specs.Prelude.{◌≡◌, ℕ, List, [], ◌∷◌, ◌++◌, Option, Ok}
 use Rattle.std.specs.List.{count_by, flat_map}
 use Rattle.ssim_base.specs.Export.{line}
 use Rattle.ssim_mailbox.specs.clauses.Mail.{mail_of}
 use Rattle.ssim_held.specs.Entries.{AreRising, DeskSeen}
 use Rattle.ssim_command_line.specs.Line.{Text}
-use Rattle.ssim_program.specs.Desks.{ReadsDesk}
+use Rattle.ssim_program.specs.Desks.{desk_in}
 use Rattle.ssim_program.specs.Files.{Files}
 use Rattle.ssim_program.specs.Receiving.{Receipt, Accepted, Refused, Unread, ReceivesEach}
 use Rattle.ssim_program.specs.Receiving.{is_refused, is_repeated, is_taken, receipt_lines}
@@ -56,7 +56,7 @@ Adds receives before after old new =
 pub record HasReceived (files : Option Files) (file : Text) (names : List Text) (after : DeskSeen)
     (lines refused : List ℕ) : Type 0 where
   pub before : DeskSeen
-  pub reads : ReadsDesk files file before
+  pub reads : desk_in files file (Ok before)
   pub receipts : List Receipt
   pub received : ReceivesEach files names before receipts after
   pub rising : AreRising after.held

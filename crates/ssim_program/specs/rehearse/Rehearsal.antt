@@ -24,7 +24,7 @@ use Rattle.ssim_desk.specs.declared.steps.Step.{Step}
 use Rattle.ssim_desk.specs.declared.steps.Step.TheVariants.{Take, Merge}
 use Rattle.ssim_program.specs.Files.{Files}
 use Rattle.ssim_command_line.specs.Line.{Text}
-use Rattle.ssim_program.specs.Made.{HasFile, ReadsBase, RefusesBase, RefusesLoad}
+use Rattle.ssim_program.specs.Made.{HasFile, RefusesLoad, base_in}
 use Rattle.ssim_program.specs.print.Refusal.{IsMemory, refusal_text}
 use Rattle.ssim_program.specs.rehearse.Script.{RefusesScript, Script, SpellsScript, Written, Takes, Merges}
 use Rattle.ssim_program.specs.declared.refusal.Refusal.{Refusal}
@@ -188,8 +188,7 @@ pub record HasSteps (files : Option Files) (name : Text) (count : ℕ)
 pub record RehearsesFiles (files : Option Files) (dataset stations script : Text)
     (bytes : List ℕ) : Type 0 where
   pub base : BaseSeen
-  pub notes : List Note
-  pub read : ReadsBase files dataset stations base notes
+  pub read : base_in files dataset stations (Ok base)
   pub records : IsBaseRecords base.records
   pub count : ℕ
   pub steps : List Step
@@ -224,6 +223,5 @@ RefusesSteps files name refusal =
 abbrev pub RefusesLines : Option Files → Text → Text → Text → Refusal → Type 0
 RefusesLines files dataset stations script refusal =
     IsMemory refusal
-    ⊎ RefusesBase files dataset stations refusal
-    ⊎ (((base : BaseSeen) × (notes : List Note) × ReadsBase files dataset stations base notes)
-    × RefusesSteps files script refusal)
+    ⊎ base_in files dataset stations (Err refusal)
+    ⊎ ((base : BaseSeen) × base_in files dataset stations (Ok base) × RefusesSteps files script refusal)

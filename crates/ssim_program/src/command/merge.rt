@@ -1,8 +1,8 @@
 //! The command `merge`: a desk that holds what two desks hold.
 
-ghost use Rattle.std.specs.Prelude.{◌≡◌, IfErr, IsTrue, OnOk};
+ghost use Rattle.std.specs.Prelude.{◌≡◌, Err, IfErr, IsTrue, OnOk};
 ghost use Rattle.ssim_program.specs.Answers.{merge};
-ghost use Rattle.ssim_program.specs.Desks.{IsMergeOf, RefusesMerge};
+ghost use Rattle.ssim_program.specs.Desks.{IsMergeOf, merged};
 ghost use Rattle.ssim_program.specs.internal.Program.{MakesOr};
 
 use crate::command::start::held_line;
@@ -45,7 +45,7 @@ pub(crate) fn merge<'n, S: Store>(
 /// Holds what the other desk holds, too.
 fn merge_desks(desk: &mut Holdings, other: &Holdings) -> Result<(), Refusal>
     ensures merged { OnOk result (IsMergeOf desk.old other.now desk.new) }
-    ensures why { IfErr result (RefusesMerge desk.old other.now) }
+    ensures why { IfErr result (λ why. merged desk.old other.now (Err why)) }
 {
     match desk.merge(other) {
         Ok(()) => Ok(()),

@@ -3,15 +3,13 @@
 mod mailboxes;
 mod receipt;
 
-ghost use Rattle.std.specs.Prelude.{◌≡◌, ◌∷◌, Err, IfErr, IfOk, IfSome, IsTrue, map, option_map};
+ghost use Rattle.std.specs.Prelude.{◌≡◌, ◌∷◌, Err, IfErr, IfOk, IfSome, IsTrue, Ok, map, option_map};
 ghost use Rattle.std.specs.List.{list_any};
 ghost use Rattle.std.specs.Str.{bytes_eq};
 ghost use Rattle.ssim_program.specs.Answers.{receive};
-ghost use Rattle.ssim_program.specs.Places.{MayReplace};
-ghost use Rattle.ssim_program.specs.Receiving.{IsApart, MayReceive, RefusesPlaces, RefusesRefused, received};
+ghost use Rattle.ssim_program.specs.Receiving.{places_in, received, refused_place};
 ghost use Rattle.ssim_program.specs.internal.Program.{MakesOr};
 ghost use Rattle.ssim_program.specs.internal.Receive.{HasReceived};
-ghost use Rattle.ssim_program.specs.declared.content_kind.ContentKind.TheVariants as kind;
 ghost use Rattle.ssim_program.specs.declared.made.Contents.TheVariants as contents;
 
 use crate::command::receive::mailboxes::receive_files;
@@ -95,11 +93,10 @@ fn hold_refused<S: Store>(
 ) -> Result<S::Hold, Refusal>
     requires fresh { IsTrue (S.is_fresh store.now) }
     ensures name { IfOk result (λ hold. S.Hold.file hold ≡ refused.now) }
-    ensures held { IfOk result (λ _. IsApart (S.files store.old) refused.now
-        (kept.now ∷ file.now ∷ map (λ t. t.now) names.now)
-        × MayReplace (S.files store.old) refused.now kind.RefusedTexts) }
-    ensures refused { IfErr result (RefusesRefused (S.files store.old) refused.now
-        (kept.now ∷ file.now ∷ map (λ t. t.now) names.now)) }
+    ensures held { IfOk result (λ _. refused_place (S.files store.old)
+        (kept.now ∷ file.now ∷ map (λ t. t.now) names.now) refused.now (Ok tt)) }
+    ensures refused { IfErr result (λ why. refused_place (S.files store.old)
+        (kept.now ∷ file.now ∷ map (λ t. t.now) names.now) refused.now (Err why)) }
     ensures same { S.files store.new ≡ S.files store.old }
     ensures counted { S.failures store.new ≡ S.failures store.old }
 {
@@ -129,10 +126,10 @@ fn hold_places<S: Store>(
     requires fresh { IsTrue (S.is_fresh store.now) }
     ensures names { IfOk result (λ places. (S.Hold.file places.desk ≡ out.now)
         × (option_map S.Hold.file places.refused ≡ option_map (λ t. t.now) refused.entry)) }
-    ensures held { IfOk result (λ _. MayReceive (S.files store.old)
-        (option_map (λ t. t.now) refused.entry) file.now out.now (map (λ t. t.now) names.now)) }
-    ensures refused { IfErr result (RefusesPlaces (S.files store.old)
-        (option_map (λ t. t.now) refused.entry) file.now out.now (map (λ t. t.now) names.now)) }
+    ensures held { IfOk result (λ _. places_in (S.files store.old)
+        (option_map (λ t. t.now) refused.entry) file.now out.now (map (λ t. t.now) names.now) (Ok tt)) }
+    ensures refused { IfErr result (λ why. places_in (S.files store.old)
+        (option_map (λ t. t.now) refused.entry) file.now out.now (map (λ t. t.now) names.now) (Err why)) }
     ensures same { S.files store.new ≡ S.files store.old }
     ensures counted { S.failures store.new ≡ S.failures store.old }
 {

@@ -14,8 +14,8 @@ pub returns-in_err-count-clause-answer : goal.returns-in_err-count-clause-answer
 returns-in_err-count-clause-answer g c =
     let why = c.in_err-count.field-0.0 in
     let is : c.from_residual-in_err-count.result ≡ Err why = search rules in
-    let read = c.in_ok-data_set.ensures.read in
     rw is (inr (inr (
-      (base_with c.in_ok-data_set.data_set c.in_ok-data_set.stations, read.0, read.1),
+      base_with c.in_ok-data_set.data_set c.in_ok-data_set.stations,
+      c.in_ok-data_set.ensures.read,
       subst (λ (files : Option Files). RefusesSteps files c.args.script.now why) c.load_base.ensures.same c.in_err-count.ensures.err,
     )))

@@ -2,13 +2,13 @@
 use Rattle.std.proofs.Common.{◌≡◌, Err, List, None, Option, Some, inl, map, option_map, rules}
 use Rattle.ssim_command_line.specs.Line.{Text}
 use Rattle.ssim_program.specs.Files.{Files}
-use Rattle.ssim_program.specs.Places.{RefusesHold}
-use Rattle.ssim_program.specs.Receiving.{RefusesPlaces}
+use Rattle.ssim_program.specs.Places.{place_in}
+use Rattle.ssim_program.specs.Receiving.{places_in}
 use Rattle.ssim_program.specs.declared.content_kind.ContentKind.TheVariants as kind
 use Rattle.ssim_program.specs.declared.refusal.Refusal.{Refusal}
 use Rattle.ssim_program.proofs.command.receive.hold_places.Goals as goal
 
-not_held : (files : Option Files) (refused : Option Text) (file out : Text) (names : List Text) (why : Refusal) → RefusesHold files out kind.DeskFile why → RefusesPlaces files refused file out names why
+not_held : (files : Option Files) (refused : Option Text) (file out : Text) (names : List Text) (why : Refusal) → place_in files out kind.DeskFile (Err why) → places_in files refused file out names (Err why)
 not_held files None file out names why not_so = not_so
 not_held files (Some refused) file out names why not_so = inl not_so
 

@@ -13,7 +13,7 @@ returns-clause-ok g c =
     let lines = c.in_ok-lines.ensures has.0 has.2 in
     record {
       before = before;
-      reads = c.in_ok-desk.ensures.read;
+      reads = c.in_ok-desk.ensures.answer;
       receipts = has.0;
       received =
           subst (λ (d : DeskSeen). ReceivesEach (g.S.Store.files c.args.store.now) names before has.0 d) (sym c.in_ok-desk-2.ensures)

@@ -4,7 +4,7 @@ use Rattle.std.proofs.Common.{◌+◌, drop, get_or}
 use Rattle.ssim_held.specs.Entries.{AreRising, DeskSeen}
 use Rattle.ssim_command_line.specs.Line.{Text}
 use Rattle.ssim_program.specs.Answers.{take_each}
-use Rattle.ssim_program.specs.Desks.{RefusesFileText, TakesText}
+use Rattle.ssim_program.specs.Desks.{text_taken}
 use Rattle.ssim_program.specs.Files.{Files}
 use Rattle.ssim_program.specs.World.{Does, World, world}
 use Rattle.ssim_program.specs.declared.refusal.Refusal.{Refusal}
@@ -33,7 +33,7 @@ loop-name-preserved g c =
       through = λ after r rest. c.loop-name.invariant.through after r
           (over files out _ _ desk w after r next
           (one_text files out one rest_names desk mid c.deref.result.now w v after r
-          (subst (λ (bs : List ℕ). TakesText files one desk mid bs) (sym c.deref.ensures.value) (subst (λ (f : Option Files). TakesText f one desk mid c.in-Ok.line.items) c.loop-name.invariant.files c.in-Ok.ensures.text))
+          (subst (λ (bs : List ℕ). text_taken files one desk (Ok (mid, bs))) (sym c.deref.ensures.value) (subst (λ (f : Option Files). text_taken f one desk (Ok (mid, c.in-Ok.line.items))) c.loop-name.invariant.files c.in-Ok.ensures.text))
           (acted_print _ _ _ _ c.loop-name.out c.print_all.new.out c.deref.result.now (Ok tt) c.take_text.ensures.same c.take_text.ensures.counted c.in_ok-print_all.ensures) rest));
     }
 
@@ -48,7 +48,7 @@ returns-in-Err g c =
     let next = next_word (λ t. t.now) names i (record { ref_ptr = (0, 0); now = [] }) c.loop-name-test.true in
     c.loop-name.invariant.through v (Err why)
     (over files out _ _ desk w v (Err why) next
-    (not_taken files out one rest_names desk w v why (subst (λ (f : Option Files). RefusesFileText f one desk why) c.loop-name.invariant.files c.in-Err.ensures.text)
+    (not_taken files out one rest_names desk w v why (subst (λ (f : Option Files). text_taken f one desk (Err why)) c.loop-name.invariant.files c.in-Err.ensures.text)
     (same_world _ _ _ _ c.loop-name.out c.take_text.ensures.same c.take_text.ensures.counted)))
 
 pub returns-in_err-print_all : goal.returns-in_err-print_all
@@ -64,7 +64,7 @@ returns-in_err-print_all g c =
     rw is (c.loop-name.invariant.through v (Err why)
     (over files out _ _ desk w v (Err why) next
     (not_printed files out one rest_names desk mid c.deref.result.now w v why
-    (subst (λ (bs : List ℕ). TakesText files one desk mid bs) (sym c.deref.ensures.value) (subst (λ (f : Option Files). TakesText f one desk mid c.in-Ok.line.items) c.loop-name.invariant.files c.in-Ok.ensures.text))
+    (subst (λ (bs : List ℕ). text_taken files one desk (Ok (mid, bs))) (sym c.deref.ensures.value) (subst (λ (f : Option Files). text_taken f one desk (Ok (mid, c.in-Ok.line.items))) c.loop-name.invariant.files c.in-Ok.ensures.text))
     (acted_print _ _ _ _ c.loop-name.out c.print_all.new.out c.deref.result.now (Err why) c.take_text.ensures.same c.take_text.ensures.counted c.in_err-print_all.ensures))))
 
 pub returns-in_err-desk : goal.returns-in_err-desk

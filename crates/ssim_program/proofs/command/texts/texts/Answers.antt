@@ -11,6 +11,6 @@ returns-in_err-flights-clause-answer g c =
     let is : c.from_residual-in_err-flights.result ≡ Err why = search rules in
     rw is (inr (
       c.in_ok-desk.desk,
-      c.in_ok-desk.ensures.read,
+      c.in_ok-desk.ensures.answer,
       inl (subst (λ (a : List ℕ). flights_in a (map (λ t. t.now) c.args.flights.now) (Err why)) here c.in_err-flights.ensures.err),
     ))

@@ -1,10 +1,10 @@
 -- The messages are withdrawn, or a word is no reference.
-use Rattle.std.proofs.Common.{◌≡◌, ◌∷◌, [], Err, Option, ap, inl, inr, map, rules, subst, sym}
+use Rattle.std.proofs.Common.{◌≡◌, ◌∷◌, [], Err, Option, ap, inl, inr, map, rules, subst, sym, Ok}
 use Rattle.ssim_held.specs.Entries.{AreRising, DeskSeen}
 use Rattle.ssim_held.specs.File.{desk_file}
 use Rattle.ssim_command_line.specs.Line.{Text}
 use Rattle.ssim_program.specs.Acts.{Keep, Print}
-use Rattle.ssim_program.specs.Desks.{ReadsDesk}
+use Rattle.ssim_program.specs.Desks.{desk_in}
 use Rattle.ssim_program.specs.Files.{Files}
 use Rattle.ssim_program.specs.Withdrawing.{WithdrawsFrom}
 use Rattle.ssim_program.proofs.command.withdraw.withdraw.Goals as goal
@@ -12,13 +12,13 @@ use Rattle.ssim_program.proofs.command.withdraw.withdraw.Goals as goal
 pub returns-in_err-lines-clause-answer : goal.returns-in_err-lines-clause-answer
 returns-in_err-lines-clause-answer g c =
     let is : c.from_residual-in_err-lines.result ≡ Err c.in_err-lines.field-0.0 = search rules in
-    let read = subst (λ (f : Option Files). ReadsDesk f c.args.file.now c.in_ok-desk.desk) c.hold.ensures.same c.in_ok-desk.ensures.read in
+    let read = subst (λ (f : Option Files). desk_in f c.args.file.now (Ok c.in_ok-desk.desk)) c.hold.ensures.same c.in_ok-desk.ensures.answer in
     rw is (inr (tt, c.in_ok-place.ensures.held, inr (c.in_ok-desk.desk, read, inl c.in_err-lines.ensures.why)))
 
 pub returns-clause-answer : goal.returns-clause-answer
 returns-clause-answer g c =
     let desk = c.in_ok-desk-2.desk in let lines = c.in_ok-lines.lines.items in
-    let read = subst (λ (f : Option Files). ReadsDesk f c.args.file.now c.in_ok-desk.desk) c.hold.ensures.same c.in_ok-desk.ensures.read in
+    let read = subst (λ (f : Option Files). desk_in f c.args.file.now (Ok c.in_ok-desk.desk)) c.hold.ensures.same c.in_ok-desk.ensures.answer in
     let done = subst (λ (d : DeskSeen). WithdrawsFrom (map (λ t. t.now) c.args.words.now) c.in_ok-desk.desk d lines) (sym c.in_ok-desk-2.ensures) c.in_ok-lines.ensures.done in
     let rising = subst AreRising c.held.ensures.value c.held.ensures.rising in (
       tt,
