@@ -85,7 +85,7 @@ class Devices:
     def kept_by(self, name):
         """The file that a command keeps before it prints."""
         kept = {command: kept for command, _, kept in COMMANDS}[name]
-        return {kept: self.whole[name].files[kept]} if name in ("start", "merge", "withdraw", "publish") else {}
+        return {kept: self.whole[name].files[kept]} if name in ("start", "merge") else {}
 
     # ---- the standard streams
 
@@ -295,7 +295,7 @@ class Devices:
             return "another line"
         if files != self.start and not (answer.err == file_fault(kept) and self.is_half_kept(name, files)):
             return "a file changed"
-        return "something was printed" if answer.out and name not in ("take", "receive") else None
+        return "something was printed" if answer.out and name not in ("take", "receive", "withdraw", "publish") else None
 
     def failing_calls(self, error, onward):
         for name, words, kept in COMMANDS:

@@ -4,11 +4,11 @@
 For k = 1, 2, .. growth number k of a run is refused, and for each third k every growth from the k-th on, until a run meets no refusal:
 these runs differ only in what is done after a refusal. Each run ends with status 0 and exactly the bytes and the file of a run without
 refusals; or with status 1 and `refused 90 Memory`, and no file is kept or changed. Before a 90 `take` may have printed the lines of its
-first texts, and no other command anything. `rehearse` may print 90 in the line of a step: then the other lines are those of the script
-without the step. It may print 90 in the line of a desk, and does so in some run: then the other desks have the lines that they have
-without it, and the last line is `same` only if all desks have this line. `receive` may print 90 in the line of a text: then the other
-lines are as they are without it, the text is among the refused ones, and the desk is that of the other texts. The last line is
-'N passed, M failed'; the lines before it say how many runs each command took.
+first texts, `receive`, `withdraw` and `publish` all their lines, and no other command anything. `rehearse` may print 90 in the line of a
+step: then the other lines are those of the script without the step. It may print 90 in the line of a desk, and does so in some run: then
+the other desks have the lines that they have without it, and the last line is `same` only if all desks have this line. `receive` may print
+90 in the line of a text: then the other lines are as they are without it, the text is among the refused ones, and the desk is that of the
+other texts. The last line is 'N passed, M failed'; the lines before it say how many runs each command took.
 """
 import concurrent.futures
 import os
@@ -48,9 +48,13 @@ class Sweep:
         kept_first = {**self.runs.start, "back": answer.files.get("back")} if self.name == "receive" else self.runs.start
         if answer.files not in (self.runs.start, kept_first):
             return "a file changed"
-        if not (answer.out == b"" or self.name == "take" and self.is_front(answer.out) or self.name == "receive"):
-            return "something was printed"
-        return None
+        return None if self.may_be_printed(answer.out) else "something was printed"
+
+    def may_be_printed(self, out):
+        """Whether the command may print this before it is refused."""
+        if self.name in ("withdraw", "publish"):
+            return out in (b"", self.whole.out)
+        return out == b"" or self.name == "take" and self.is_front(out) or self.name == "receive"
 
     def wrong_if_done(self, answer):
         if answer.status != 0:

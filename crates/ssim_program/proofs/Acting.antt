@@ -40,10 +40,10 @@ refined one other w v r more (acts, inr (why, is, are), performed) = (acts, inr 
 pub made_so : {H : Type 0} (file : H → List ℕ) (files : Option Files) (answer : Answer (List Act)) (m : Made H) → Makes file files answer m → (r : Result (List Act) Refusal) → will file files m r → answer r
 made_so file files answer (made.Lines lines) makes (Ok acts) is = subst (λ (these : List Act). answer (Ok these)) (sym is) makes
 made_so file files answer (made.Kept kept lines) makes (Ok acts) is = subst (λ (these : List Act). answer (Ok these)) (sym is) makes
-made_so file files answer (made.Received lines refused desk) makes (Ok acts) is = subst (λ (these : List Act). answer (Ok these)) (sym is) makes
+made_so file files answer (made.Printed lines refused kept) makes (Ok acts) is = subst (λ (these : List Act). answer (Ok these)) (sym is) makes
 made_so file files answer (made.Lines lines) makes (Err why) is = absurd is
 made_so file files answer (made.Kept kept lines) makes (Err why) is = absurd is
-made_so file files answer (made.Received lines refused desk) makes (Err why) is = absurd is
+made_so file files answer (made.Printed lines refused kept) makes (Err why) is = absurd is
 made_so file files answer (made.DataSet set) makes r is = makes r is
 made_so file files answer (made.Desk desk) makes r is = makes r is
 made_so file files answer (made.Texts place desk names) makes r is = makes r is

@@ -67,12 +67,6 @@ tidy files name = do
 
 -- ---- desks that are kept
 
--- The desk file of this desk is kept, and then the lines are printed. Its messages are in order of
--- reference.
-abbrev pub keeps_desk : Text → DeskSeen → List ℕ → Answer (List Act)
-keeps_desk out desk lines =
-    Known (AreRising desk.held) (Keep out (desk_file desk.base desk.held) ∷ Print lines ∷ [])
-
 -- A new desk, which holds no message. The records of its base can be written.
 abbrev pub start : Option Files → Text → Text → Text → Answer (List Act)
 start files dataset stations out = do
@@ -104,22 +98,24 @@ receive files refused file out names = do
   result ← received files file names
   Gives (Print (receipt_lines result.0) ∷ received_files refused out result.0 result.1)
 
--- a desk that holds what two desks hold, and the number of its messages
+-- A desk that holds what two desks hold, in order of reference, and the number of its messages.
 abbrev pub merge : Option Files → Text → Text → Text → Answer (List Act)
 merge files file other out = do
   place ← place_in files out kind.DeskFile
   mine ← desk_in files file
   theirs ← desk_in files other
   after ← merged mine theirs
-  keeps_desk out after (held_line (length after.held))
+  Known (AreRising after.held)
+      (Keep out (desk_file after.base after.held) ∷ Print (held_line (length after.held)) ∷ [])
 
--- a desk without the messages of these references, and a line for each
+-- A line for each of these references, and then the desk without their messages.
 abbrev pub withdraw : Option Files → Text → Text → List Text → Answer (List Act)
 withdraw files file out references = do
   place ← place_in files out kind.DeskFile
   desk ← desk_in files file
   left ← withdrawn references desk
-  keeps_desk out left.0 left.1
+  Known (AreRising left.0.held)
+      (Print left.1 ∷ Keep out (desk_file left.0.base left.0.held) ∷ [])
 
 -- ---- what a desk holds
 
@@ -242,7 +238,7 @@ publish files from to reference out = do
   old ← timetable_in files from
   new ← timetable_in files to
   made ← published old new reference
-  Gives (Keep out made.1 ∷ Print made.0 ∷ [])
+  Gives (Print made.0 ∷ Keep out made.1 ∷ [])
 
 -- ---- other commands
 

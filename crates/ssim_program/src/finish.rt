@@ -15,22 +15,22 @@ use crate::store::Store;
 use std::alloc::Global;
 use std::io::Write;
 
-/// Keeps the refused texts, if there is a place for them, and then the desk.
-fn keep_received<S: Store>(
+/// Keeps the refused texts, if there is a place for them, and then the other file.
+fn keep_files<S: Store>(
     alloc: Global,
     refused: &Option<Kept<S::Hold>>,
-    desk: &Kept<S::Hold>,
+    last: &Kept<S::Hold>,
     store: &mut S,
 ) -> Result<(), Refusal>
-    ensures { (out : Paper) → Performs (keeps S.Hold.file refused.now desk.now)
+    ensures { (out : Paper) → Performs (keeps S.Hold.file refused.now last.now)
         (world (S.files store.old) (S.failures store.old) out)
         (world (S.files store.new) (S.failures store.new) out) result }
 {
     match refused {
-        None => keep_content(alloc, &desk.contents, &desk.place, store),
+        None => keep_content(alloc, &last.contents, &last.place, store),
         Some(kept) => {
             keep_content(alloc, &kept.contents, &kept.place, store)?;
-            keep_content(alloc, &desk.contents, &desk.place, store)
+            keep_content(alloc, &last.contents, &last.place, store)
         }
     }
 }
@@ -53,13 +53,13 @@ pub(crate) fn finish<S: Store, W: Write>(
             keep_content(alloc, &kept.contents, &kept.place, store)?;
             print_all(out, &lines)
         }
-        Made::Received {
+        Made::Printed {
             lines,
             refused,
-            desk,
+            kept,
         } => {
             print_all(out, &lines)?;
-            keep_received(alloc, &refused, &desk, store)
+            keep_files(alloc, &refused, &kept, store)
         }
         Made::DataSet(data_set) => export_set(data_set, out),
         Made::Desk(desk) => export_desk(desk, out),

@@ -46,12 +46,12 @@ pub(crate) enum Made<'n, H: Hold + Drop> {
         kept: Kept<H>,
         lines: Vec<u8>,
     },
-    /// Lines to be printed, and then files to be kept: the refused texts, if there is a place for
-    /// them, and a desk.
-    Received {
+    /// Lines to be printed, and then files to be kept: the refused texts of `receive`, if there is a
+    /// place for them, and a desk or messages.
+    Printed {
         lines: Vec<u8>,
         refused: Option<Kept<H>>,
-        desk: Kept<H>,
+        kept: Kept<H>,
     },
     /// A data set to be exported.
     DataSet(DataSet),

@@ -35,20 +35,20 @@ abbrev pub bytes_of : Contents → List ℕ
 bytes_of (contents.DeskFile desk) = desk_file desk.base desk.held
 bytes_of (contents.Bytes bytes) = bytes.items
 
--- the acts that keep the refused texts, if there is a place for them, and then a desk
+-- the acts that keep the refused texts, if there is a place for them, and then another file
 abbrev pub keeps : {H : Type 0} → (H → List ℕ) → Option (Kept H) → Kept H → List Act
-keeps file None desk = Keep (file desk.place) (bytes_of desk.contents) ∷ []
-keeps file (Some refused) desk =
+keeps file None kept = Keep (file kept.place) (bytes_of kept.contents) ∷ []
+keeps file (Some refused) kept =
     Keep (file refused.place) (bytes_of refused.contents)
-    ∷ Keep (file desk.place) (bytes_of desk.contents) ∷ []
+    ∷ Keep (file kept.place) (bytes_of kept.contents) ∷ []
 
 -- what is done with what a command has made is an answer
 abbrev pub Makes : {H : Type 0} → (H → List ℕ) → Option Files → Answer (List Act) → Made H → Type 0
 Makes file files answer (made.Lines lines) = answer (Ok (Print lines.items ∷ []))
 Makes file files answer (made.Kept kept lines) =
     answer (Ok (Keep (file kept.place) (bytes_of kept.contents) ∷ Print lines.items ∷ []))
-Makes file files answer (made.Received lines refused desk) =
-    answer (Ok (Print lines.items ∷ keeps file refused desk))
+Makes file files answer (made.Printed lines refused kept) =
+    answer (Ok (Print lines.items ∷ keeps file refused kept))
 Makes file files answer (made.DataSet set) = (result : Result (List Act) Refusal)
     → prints (export_in set (days_of set)) result → answer result
 Makes file files answer (made.Desk desk) = (result : Result (List Act) Refusal)
@@ -72,8 +72,8 @@ abbrev pub will : {H : Type 0} → (H → List ℕ) → Option Files → Made H 
 will file files (made.Lines lines) = exactly (Print lines.items ∷ [])
 will file files (made.Kept kept lines) =
     exactly (Keep (file kept.place) (bytes_of kept.contents) ∷ Print lines.items ∷ [])
-will file files (made.Received lines refused desk) =
-    exactly (Print lines.items ∷ keeps file refused desk)
+will file files (made.Printed lines refused kept) =
+    exactly (Print lines.items ∷ keeps file refused kept)
 will file files (made.DataSet set) = prints (export_in set (days_of set))
 will file files (made.Desk desk) = prints (export_in desk.base.records (days_of_desk desk))
 will file files (made.Texts place desk names) =

@@ -14,8 +14,8 @@ use crate::timetable_file::open_timetable;
 use ssim_outbox::Published;
 use std::alloc::Global;
 
-/// The messages that lead the timetable of one file to another file's; and a line for each message,
-/// the dates that no message says, and the numbers of all.
+/// A line for each message that leads the timetable of one file to another file's, the dates that no
+/// message says, and the numbers of all; and then the messages.
 pub(crate) fn publish<'n, S: Store>(
     alloc: Global,
     from: &str,
@@ -40,5 +40,9 @@ pub(crate) fn publish<'n, S: Store>(
     let Published { lines, mail, .. } = made;
     let contents = Contents::Bytes(mail);
     let kept = Kept { place, contents };
-    Ok(Made::Kept { kept, lines })
+    Ok(Made::Printed {
+        lines,
+        refused: None,
+        kept,
+    })
 }

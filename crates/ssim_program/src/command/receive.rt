@@ -183,13 +183,13 @@ pub(crate) fn receive<'n, S: Store>(
     let received = received_by(alloc, file, names, store)?;
     let lines = received.lines;
     let refused = kept_texts(places.refused, received.refused);
-    let desk = Kept {
+    let kept = Kept {
         place: places.desk,
         contents: Contents::DeskFile(received.desk),
     };
-    Ok(Made::Received {
+    Ok(Made::Printed {
         lines,
         refused,
-        desk,
+        kept,
     })
 }

@@ -18,7 +18,7 @@ use ssim_desk::Intake;
 use ssim_text::Reference;
 use std::alloc::Global;
 
-/// The desk in a file without the messages of these references, and a line for each reference.
+/// A line for each of these references, and then the desk in a file without their messages.
 pub(crate) fn withdraw<'n, S: Store>(
     alloc: Global,
     file: &str,
@@ -40,7 +40,11 @@ pub(crate) fn withdraw<'n, S: Store>(
     let _ = desk.held();
     let contents = Contents::DeskFile(desk);
     let kept = Kept { place, contents };
-    Ok(Made::Kept { kept, lines })
+    Ok(Made::Printed {
+        lines,
+        refused: None,
+        kept,
+    })
 }
 
 /// Withdraws the message of each reference that the words spell. Returns their lines.

@@ -19,7 +19,7 @@ made_of file files request other r is makes = subst (λ (q : Request). MakesOr f
 lines_of : {A H : Type 0} (file : H → List ℕ) (files : Option Files) (answer : Answer (List ℕ)) (v : Result (Vec ℕ A) Refusal) (r : Result (Made H) Refusal) → Answers answer v → AreLines v r → MakesOr file files (prints answer) r
 lines_of file files answer (Ok v) (Ok (made.Lines lines)) is same = (lines.items, subst (λ (bytes : List ℕ). answer (Ok bytes)) (sym same) is, refl)
 lines_of file files answer (Ok v) (Ok (made.Kept kept lines)) is same = absurd same
-lines_of file files answer (Ok v) (Ok (made.Received lines refused desk)) is same = absurd same
+lines_of file files answer (Ok v) (Ok (made.Printed lines refused kept)) is same = absurd same
 lines_of file files answer (Ok v) (Ok (made.DataSet set)) is same = absurd same
 lines_of file files answer (Ok v) (Ok (made.Desk desk)) is same = absurd same
 lines_of file files answer (Ok v) (Ok (made.Texts place desk names)) is same = absurd same

@@ -46,33 +46,33 @@ returns-in_ok-keep_content-in-Kept-clause-does g c =
       ),
     )
 
-pub returns-in_err-print_all-in-Received-clause-does : goal.returns-in_err-print_all-in-Received-clause-does
-returns-in_err-print_all-in-Received-clause-does g c =
-    let why = c.in_err-print_all-in-Received.field-0.0 in let lines = c.in-Received.lines.items in
-    let is : c.from_residual-in_err-print_all-in-Received.result ≡ Err why = search rules in
-    rw is (over _ _ _ _ _ _ _ c.in-Received.is (
-      Print lines ∷ keeps g.S.Hold.Hold.file c.in-Received.refused c.in-Received.desk,
+pub returns-in_err-print_all-in-Printed-clause-does : goal.returns-in_err-print_all-in-Printed-clause-does
+returns-in_err-print_all-in-Printed-clause-does g c =
+    let why = c.in_err-print_all-in-Printed.field-0.0 in let lines = c.in-Printed.lines.items in
+    let is : c.from_residual-in_err-print_all-in-Printed.result ≡ Err why = search rules in
+    rw is (over _ _ _ _ _ _ _ c.in-Printed.is (
+      Print lines ∷ keeps g.S.Hold.Hold.file c.in-Printed.refused c.in-Printed.kept,
       inl refl,
       inr (
         why,
-        acted_print _ _ _ _ c.args.out.now c.print_all-in-Received.new.out lines (Err why) refl refl
-            (subst (λ (bs : List ℕ). Prints bs c.args.out.now c.print_all-in-Received.new.out (Err why)) c.deref-in-Received.ensures.value c.in_err-print_all-in-Received.ensures),
+        acted_print _ _ _ _ c.args.out.now c.print_all-in-Printed.new.out lines (Err why) refl refl
+            (subst (λ (bs : List ℕ). Prints bs c.args.out.now c.print_all-in-Printed.new.out (Err why)) c.deref-in-Printed.ensures.value c.in_err-print_all-in-Printed.ensures),
         refl,
       ),
     ))
 
-pub returns-in_ok-print_all-in-Received-clause-does : goal.returns-in_ok-print_all-in-Received-clause-does
-returns-in_ok-print_all-in-Received-clause-does g c =
-    let lines = c.in-Received.lines.items in
-    let between = world (g.S.Store.files c.args.store.now) (g.S.Store.failures c.args.store.now) c.print_all-in-Received.new.out in
-    over _ _ _ _ _ _ _ c.in-Received.is (
-      Print lines ∷ keeps g.S.Hold.Hold.file c.in-Received.refused c.in-Received.desk,
+pub returns-in_ok-print_all-in-Printed-clause-does : goal.returns-in_ok-print_all-in-Printed-clause-does
+returns-in_ok-print_all-in-Printed-clause-does g c =
+    let lines = c.in-Printed.lines.items in
+    let between = world (g.S.Store.files c.args.store.now) (g.S.Store.failures c.args.store.now) c.print_all-in-Printed.new.out in
+    over _ _ _ _ _ _ _ c.in-Printed.is (
+      Print lines ∷ keeps g.S.Hold.Hold.file c.in-Printed.refused c.in-Printed.kept,
       inl refl,
       inl (
         between,
-        acted_print _ _ _ _ c.args.out.now c.print_all-in-Received.new.out lines (Ok tt) refl refl
-            (subst (λ (bs : List ℕ). Prints bs c.args.out.now c.print_all-in-Received.new.out (Ok tt)) c.deref-in-Received.ensures.value c.in_ok-print_all-in-Received.ensures),
-        c.keep_received.ensures c.print_all-in-Received.new.out,
+        acted_print _ _ _ _ c.args.out.now c.print_all-in-Printed.new.out lines (Ok tt) refl refl
+            (subst (λ (bs : List ℕ). Prints bs c.args.out.now c.print_all-in-Printed.new.out (Ok tt)) c.deref-in-Printed.ensures.value c.in_ok-print_all-in-Printed.ensures),
+        c.keep_files.ensures c.print_all-in-Printed.new.out,
       ),
     )
 

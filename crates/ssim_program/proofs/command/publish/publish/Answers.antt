@@ -33,5 +33,5 @@ returns-clause-answer g c =
     let mine = subst (λ (f : Option Files). ReadsTimetable f c.args.from.now c.in_ok-old.old) c.hold.ensures.same c.in_ok-old.ensures.read in
     let theirs = subst (λ (f : Option Files). ReadsTimetable f c.args.to.now c.in_ok-new.new) same c.in_ok-new.ensures.read in
     let lines = c.in-Ok.made.lines.items in let mail = c.in-Ok.made.mail.items in
-    let keep : (out : Text) → List Act = λ out. Keep out mail ∷ Print lines ∷ [] in
+    let keep : (out : Text) → List Act = λ out. Print lines ∷ Keep out mail ∷ [] in
     (tt, c.in_ok-place.ensures.held, (c.in_ok-old.old, mine, (c.in_ok-new.new, theirs, ((lines, mail), c.in-Ok.ensures.ok, ap keep c.in_ok-place.ensures.name))))

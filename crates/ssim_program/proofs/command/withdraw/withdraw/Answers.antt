@@ -31,7 +31,7 @@ returns-clause-answer g c =
           done,
           (
             rising,
-            ap (λ (out : Text). Keep out (desk_file desk.base desk.held) ∷ Print lines ∷ []) c.in_ok-place.ensures.name,
+            ap (λ (out : Text). Print lines ∷ Keep out (desk_file desk.base desk.held) ∷ []) c.in_ok-place.ensures.name,
           ),
         ),
       ),
