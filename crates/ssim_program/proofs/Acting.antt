@@ -1,10 +1,8 @@
 -- What commands do by their acts.
 use Rattle.std.proofs.Common.{◌≡◌, ◌∙◌, inl, inr, ℕ, List, [], ◌∷◌, ◌++◌, Option, Result, Ok, Err, refl, sym, ap, subst}
-use Rattle.ssim_program.specs.Acts.{Act, Acts, Print, Keep, Stop, kept_by}
+use Rattle.ssim_program.specs.Acts.{Act, Print, Keep, Stop, kept_by}
 use Rattle.ssim_program.specs.Answer.{Answer}
-use Rattle.ssim_program.specs.Answers.{answers}
 use Rattle.ssim_program.specs.Files.{Files, with_kept}
-use Rattle.ssim_program.specs.Offices.{CommandsAreEvents}
 use Rattle.ssim_program.specs.World.{Acted, Does, Performs, World, world}
 use Rattle.ssim_program.specs.internal.Print.{Prints}
 use Rattle.ssim_program.specs.internal.Program.{Makes, will}
@@ -50,7 +48,7 @@ made_so file files answer (made.Texts place desk names) makes r is = makes r is
 
 -- ---- what was done
 
-abbrev Prefix : List Act → Option Files → Option Files → Type 0
+abbrev pub Prefix : List Act → Option Files → Option Files → Type 0
 Prefix acts old new = (done : List Act) × (later : List Act) × (acts ≡ done ++ later) × (new ≡ with_kept (kept_by done) old)
 
 none : (acts : List Act) (old new : Option Files) → new ≡ old → Prefix acts old new
@@ -72,13 +70,8 @@ files_failed (Print bytes) w v why acted = acted.2
 files_failed (Keep name bytes) w v why acted = acted.1
 files_failed (Stop refusal) w v why acted = ap (λ (x : World). x.files) acted.1
 
-performed : (acts : List Act) (w v : World) (r : Result (Unit {0}) Refusal) → Performs acts w v r → Prefix acts w.files v.files
+pub performed : (acts : List Act) (w v : World) (r : Result (Unit {0}) Refusal) → Performs acts w v r → Prefix acts w.files v.files
 performed [] w v (Ok x) is = none [] w.files v.files (ap (λ (y : World). y.files) is)
 performed [] w v (Err why) is = absurd is
 performed (act ∷ later) w v r (inl (mid, acted, rest)) = one_more act later w.files mid.files v.files (files_acted act w mid acted) (performed later mid v r rest)
 performed (act ∷ later) w v r (inr (why, acted, is)) = none (act ∷ later) w.files v.files (files_failed act w v why acted)
-
-pub commands_are_events : CommandsAreEvents
-commands_are_events line before after result (acts, are, performs) =
-    let done = performed acts before after result performs in
-    (done.0, done.1, subst (Acts (answers line before.files)) done.2 are, done.3)

@@ -17,6 +17,7 @@ pub mod Outcomes
 pub mod Scripted
 pub mod Withdrawing
 pub mod Origins
+pub mod Events
 pub mod SavedDesks
 pub mod AcceptedTexts
 pub mod Offices

@@ -32,11 +32,11 @@ all_flights words i so_far none before =
     subst (SpellEach words) (append-nil so_far) (before [] (subst (λ (ws : List Text). SpellEach ws []) (sym none) tt))
 
 -- the next word of those that are left
-pub next_word : {A : Type 0} (f : A → Text) (xs : List A) (i : ℕ) (d : A) → i < length xs → drop i (map f xs) ≡ f (get_or xs i d) ∷ drop (i + 1) (map f xs)
+pub next_word : {A B : Type 0} (f : A → B) (xs : List A) (i : ℕ) (d : A) → i < length xs → drop i (map f xs) ≡ f (get_or xs i d) ∷ drop (i + 1) (map f xs)
 next_word f xs i d within =
-    drop-map f i xs ∙ ap (map f) (drop_more xs i d within) ∙ ap (λ (ws : List Text). f (get_or xs i d) ∷ ws) (sym (drop-map f (i + 1) xs))
+    drop-map f i xs ∙ ap (map f) (drop_more xs i d within) ∙ ap (λ ws. f (get_or xs i d) ∷ ws) (sym (drop-map f (i + 1) xs))
 
-pub no_word : {A : Type 0} (f : A → Text) (xs : List A) (i : ℕ) → length xs ≤ i → drop i (map f xs) ≡ []
+pub no_word : {A B : Type 0} (f : A → B) (xs : List A) (i : ℕ) → length xs ≤ i → drop i (map f xs) ≡ []
 no_word f xs i past = drop-map f i xs ∙ ap (map f) (drop_all i xs past)
 
 -- the fault of a word that is no designator, as a refusal

@@ -25,7 +25,7 @@ use Rattle.ssim_program.specs.internal.Take.{TakesTexts}
 use Rattle.ssim_program.specs.Files.{Files, file_of}
 use Rattle.ssim_program.specs.Made.{file_limit}
 use Rattle.ssim_program.specs.Receiving.{IsAccepted, Receipt, texts_received}
-use Rattle.ssim_program.specs.Offices.{BeganBy, BeganFrom, Began, Bringing, Brought, BroughtBy, Happened, History, HoldsWhatWasBrought, IsIn, IsSaid, OfficesAgree, Origin, Then, files_of, origin_of}
+use Rattle.ssim_program.specs.Offices.{BeganBy, BeganFrom, Began, Bringing, Brought, BroughtBy, Happened, History, HoldsWhatWasBrought, IsIn, IsReadFrom, IsSaid, IsSavedFrom, OfficesAgree, Origin, Then, files_of, origin_of}
 use Rattle.ssim_program.specs.Offices as office
 use Rattle.ssim_program.proofs.AcceptedTexts.{accepted, after_files}
 use Rattle.ssim_program.proofs.Origins.{Comes, comes, same_some, read_from}
@@ -52,10 +52,6 @@ record IsKept (file : Option (List ℕ)) (base : BaseSeen) (brought : Messages) 
   can : CanBeSaved base held
   is : file ≡ Some (desk_file base held)
   holds : (r : Reference) (m : MessageValue) → (get (map_of held) r ≡ Some m) ↔ brought r m
-
--- the base was read from these bytes
-abbrev IsReadFrom : BaseSeen → List ℕ → List ℕ → Type 0
-IsReadFrom base dataset stations = (notes : List Note) × IsReadAs file_limit dataset (Ok (base.records, notes)) × SpellsTable base.rows stations
 
 -- the file is that of a desk that began from these bytes
 abbrev IsFounded : Option (List ℕ) → Messages → List ℕ → List ℕ → Type 0
@@ -99,6 +95,21 @@ module _ (one : OneMessage) (again : CanonicalReadsBack) (one_each : OneReferenc
         is = is ∙ ap (λ (bytes : List ℕ). Some bytes) (same_file base held list.es same);
         holds = λ r m. subst (λ (x : HeldMessages). (get x r ≡ Some m) ↔ brought r m) maps (holds r m);
       }
+
+  -- the file of a desk that was saved from these bytes
+  saved : (bytes d s : List ℕ) (file : Option (List ℕ)) (brought : Messages) → file ≡ Some bytes → ((r : Reference) (m : MessageValue) → IsIn bytes r m ↔ brought r m) → IsSavedFrom bytes d s
+      → IsFounded file brought d s
+  saved bytes d s file brought at same (base, held, short, is, can, from) =
+      (base, from, record { held = held; can = can; is = at ∙ ap (λ (bs : List ℕ). Some bs) is; holds = λ r m. (λ h. (same r m).0 (there r m h), λ b. back r m ((same r m).1 b)) })
+    where
+      desk : IsDeskFile bytes base held
+      desk = record { saved = can; is_file = inl is }
+
+      there : (r : Reference) (m : MessageValue) → get (map_of held) r ≡ Some m → IsIn bytes r m
+      there r m h = (base, held, short, desk, h)
+
+      back : (r : Reference) (m : MessageValue) → IsIn bytes r m → get (map_of held) r ≡ Some m
+      back r m x = subst (λ (es : List Entry). get (map_of es) r ≡ Some m) (one_desk (Some bytes) x.0 base x.1 held (bytes, x.2, refl, x.3) (bytes, short, refl, desk)).1 x.4
 
   -- ---- texts
 
@@ -275,7 +286,7 @@ module _ (one : OneMessage) (again : CanonicalReadsBack) (one_each : OneReferenc
         let first = earlier name from in
         let same = kept_desk (file_of files name) first.0 c.0.base (brought name) c.0.held first.2 (reads_of files name c.0 c.3) in
         (c.0.base, subst (λ (b : BaseSeen). IsReadFrom b d s) same.0 first.1, after_withdraw name words file c)
-    founded began d s earlier (office.Given bytes) file c from = absurd from
+    founded began d s earlier (office.Given bytes) file c from = saved bytes d s file (IsIn bytes) c (λ r m. (λ x. x, λ x. x)) from
 
   -- ---- histories
 
@@ -292,7 +303,9 @@ module _ (one : OneMessage) (again : CanonicalReadsBack) (one_each : OneReferenc
       holding (files_of history) (Brought history) (each_holds history happened.0) (origin_of event name) (file_of files name) (comes event (files_of history) files name happened.1)
 
   each_founded : (history : History) → Happened history → (name : Text) (d s : List ℕ) → BeganFrom history name d s → IsFounded (file_of (files_of history) name) (Brought history name) d s
-  each_founded (Began files) happened name d s from = absurd from
+  each_founded (Began files) happened name d s (bytes, is, from) =
+      saved bytes d s (file_of files name) (Brought (Began files) name) is
+      (λ r m. (λ x. (bytes, is, x), λ x. subst (λ (bs : List ℕ). IsIn bs r m) (same_some x.0 bytes (sym x.1 ∙ is)) x.2)) from
   each_founded (Then history event files) happened name d s from =
       founded (files_of history) (Brought history) (each_holds history happened.0) (BeganFrom history) d s (λ other began. each_founded history happened.0 other d s began)
       (origin_of event name) (file_of files name) (comes event (files_of history) files name happened.1) from

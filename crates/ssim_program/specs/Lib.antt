@@ -16,6 +16,7 @@ pub mod World
 pub mod Offices
 pub mod Turns
 pub mod Runs
+pub mod Calls
 pub mod rehearse
 pub mod Explained
 pub mod Timetables

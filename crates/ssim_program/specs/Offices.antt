@@ -4,38 +4,25 @@ use Rattle.std.specs.Prelude.{◌≡◌, ◌⊎◌, ◌↔◌, ℕ, ◌≤◌, t
 use Rattle.std.specs.Prelude.{Option, Some, None, Result, Ok}
 use Rattle.std.specs.Str.{bytes_eq}
 use Rattle.ssim_base.specs.BaseSeen.{BaseSeen}
+use Rattle.ssim_base.specs.Reading.{IsReadAs}
+use Rattle.ssim_base.specs.Stations.{SpellsTable}
+use Rattle.ssim_base.specs.declared.note.Note.{Note}
 use Rattle.ssim_text.specs.Message.{MessageValue}
 use Rattle.ssim_text.specs.declared.reference.Reference.{Reference}
 use Rattle.ssim_held.specs.Entries.{DeskSeen, Entry, map_of, state_of}
-use Rattle.ssim_held.specs.File.{IsDeskFile}
+use Rattle.ssim_held.specs.File.{CanBeSaved, IsDeskFile, desk_file}
 use Rattle.ssim_held.specs.Held.{Holds, Says}
 use Rattle.ssim_program.specs.Desks.{desk_in}
-use Rattle.ssim_program.specs.Acts.{Act, Acts, is_whole, kept_by, printed_by}
+use Rattle.ssim_program.specs.Acts.{Act, is_whole, kept_by, printed_by}
 use Rattle.ssim_program.specs.Answer.{Answer}
 use Rattle.ssim_program.specs.Answers.{answers, merge, start, take, withdraw}
 use Rattle.ssim_program.specs.Files.{Files, file_of, with_kept}
 use Rattle.ssim_command_line.specs.Line.{Line, Text}
 use Rattle.ssim_program.specs.Receiving.{IsAccepted, Receipt, received, received_files}
 use Rattle.ssim_program.specs.Receiving.{refused_texts, texts_received}
-use Rattle.ssim_program.specs.World.{Does, World}
 use Rattle.ssim_program.specs.declared.refusal.Refusal.{Refusal}
 use Rattle.ssim_program.specs.Made.{HasFile, file_limit}
 use Rattle.ssim_program.specs.Withdrawing.{IsNamed}
-
--- ---- what a command leaves, whatever its status
-
--- The command has done some of its acts, from the first on: all, or those before one that failed. So
--- a call of the program on the words of a command is an event of a history: that the command kept a
--- desk; or `Came`, of the messages of `publish`, or of refused texts of `receive` whose desk was not
--- kept; or `Unchanged`.
-abbrev pub Did : Line → Option Files → Option Files → Type 0
-Did line old new = (done : List Act) × (later : List Act)
-    × Acts (answers line old) (done ++ later) × (new ≡ with_kept (kept_by done) old)
-
--- whatever its status, a command has done some of its acts
-abbrev pub CommandsAreEvents : Type 0
-CommandsAreEvents = (line : Line) (before after : World) (result : Result (Unit {0}) Refusal)
-    → Does (answers line before.files) before after result → Did line before.files after.files
 
 -- ---- histories
 
@@ -196,7 +183,19 @@ Brought (Then history event files) name reference message =
 
 -- ---- where a desk began
 
--- the desk began by `start` from these bytes of a data set and of a station table
+-- the base was read from these bytes of a data set and of a station table
+abbrev pub IsReadFrom : BaseSeen → List ℕ → List ℕ → Type 0
+IsReadFrom base dataset stations = (notes : List Note)
+    × IsReadAs file_limit dataset (Ok (base.records, notes)) × SpellsTable base.rows stations
+
+-- the bytes, within the limit, are the file of a desk whose base was read from these bytes
+abbrev pub IsSavedFrom : List ℕ → List ℕ → List ℕ → Type 0
+IsSavedFrom bytes dataset stations = (base : BaseSeen) × (held : List Entry)
+    × (length bytes ≤ file_limit) × (bytes ≡ desk_file base held) × CanBeSaved base held
+    × IsReadFrom base dataset stations
+
+-- The desk began from these bytes of a data set and of a station table: by `start`, or by a desk file
+-- that came from elsewhere and was saved from them.
 abbrev pub BeganBy : Origin → Files → (Text → List ℕ → List ℕ → Type 0) → List ℕ → List ℕ → Type 0
 BeganBy (Was name) files before dataset stations = before name dataset stations
 BeganBy (Started data_file table_file) files before dataset stations =
@@ -205,11 +204,13 @@ BeganBy (Took desk texts) files before dataset stations = before desk dataset st
 BeganBy (TookSome desk names receipts) files before dataset stations = before desk dataset stations
 BeganBy (Merged mine theirs) files before dataset stations = before mine dataset stations
 BeganBy (Withdrew desk references) files before dataset stations = before desk dataset stations
-BeganBy (Given bytes) files before dataset stations = ⊥
+BeganBy (Given bytes) files before dataset stations = IsSavedFrom bytes dataset stations
 
--- the desk in the file of this name began so
+-- The desk in the file of this name began so, or its file was there at the beginning and was saved
+-- from them.
 abbrev pub BeganFrom : History → Text → List ℕ → List ℕ → Type 0
-BeganFrom (Began files) name dataset stations = ⊥
+BeganFrom (Began files) name dataset stations =
+    (bytes : List ℕ) × (file_of files name ≡ Some bytes) × IsSavedFrom bytes dataset stations
 BeganFrom (Then history event files) name dataset stations =
     BeganBy (origin_of event name) (files_of history) (BeganFrom history) dataset stations
 
@@ -238,9 +239,10 @@ abbrev pub IsSameFile : Files → Text → Files → Text → Type 0
 IsSameFile files name others another =
     (bytes : List ℕ) × (file_of files name ≡ Some bytes) × (file_of others another ≡ Some bytes)
 
--- Two offices have the same desk file, byte for byte, if their desks began by `start` from the same
--- data set and station table and the same messages were brought to both, not counting those that
--- were withdrawn since: whatever commands each office typed, in whatever order, and however often.
+-- Two offices have the same desk file, byte for byte, if their desks began from the same data set and
+-- station table, by `start` or by a desk file that was saved from them, and the same messages were
+-- brought to both, not counting those that were withdrawn since: whatever commands each office typed,
+-- in whatever order, and however often.
 -- So a desk from which messages were withdrawn has the file of a desk to which only the others were
 -- ever brought.
 abbrev pub OfficesAgree : Type 0

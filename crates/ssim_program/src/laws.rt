@@ -5,7 +5,8 @@ ghost use Rattle.ssim_command_line.specs.Line.{Board, Calendar, Export, Findings
 ghost use Rattle.ssim_command_line.specs.Line.{Texts, Withdraw, Listing, Problems};
 ghost use Rattle.ssim_command_line.specs.declared.command_line.ListForm.{ListForm};
 ghost use Rattle.ssim_program.specs.Again.{TidiesOnce};
-ghost use Rattle.ssim_program.specs.Offices.{CommandsAreEvents, HoldsWhatWasBrought};
+ghost use Rattle.ssim_program.specs.Calls.{CommandsAreEvents};
+ghost use Rattle.ssim_program.specs.Offices.{HoldsWhatWasBrought};
 ghost use Rattle.ssim_program.specs.Offices.{OfficesAgree, PrintsTheSame};
 ghost use Rattle.ssim_program.specs.FirstProblem.{RefusalIsFirstProblem};
 ghost use Rattle.ssim_program.specs.Turns.{HoldsWhatCameInTurn, NothingHeldIsLost};
@@ -112,8 +113,9 @@ pub fn memory_has_one_line()
     ensures { MemoryHasOneLine }
 {}
 
-/// Each call of the program on the words of a command is one event of a history of desk files: the
-/// command has done some of its acts, from the first on, and no file changes but those that it kept.
+/// Each call of the program on the words of a command is one event of a history of files, whatever its
+/// status: the command kept its desk; or `receive` kept the refused texts alone; or the messages of
+/// `publish` came; or no file changed.
 pub fn commands_are_events()
     ensures { CommandsAreEvents }
 {}

@@ -7,6 +7,7 @@ ghost use Rattle.ssim_command_line.specs.Line.{line_of};
 ghost use Rattle.ssim_command_line.specs.Usage.{Names, is_help};
 ghost use Rattle.ssim_program.specs.Again.{PrintsItself};
 ghost use Rattle.ssim_program.specs.Answers.{answers};
+ghost use Rattle.ssim_program.specs.Calls.{Continues};
 ghost use Rattle.ssim_program.specs.Runs.{Obeys, Runs, SaysWrong};
 ghost use Rattle.ssim_program.specs.World.{Does, PrintsRefusal, world};
 ghost use Rattle.ssim_program.specs.internal.Program.{EndsWithoutRequest, SaysHelp};
@@ -93,6 +94,23 @@ pub fn run_on<S: Store, O: Write, E: Write>(
     match parse(alloc, words) {
         Ok(request) => obey(alloc, &request, store, out, err),
         Err(fault) => without_request(alloc, &fault, out, err),
+    }
+}
+
+/// Runs the program on the words of several commands, one after another, whatever the status of each.
+/// So the files are those of a history that goes on with one event for each call.
+pub fn run_each<S: Store, O: Write, E: Write>(
+    alloc: Global,
+    commands: &[&[&str]],
+    store: &mut S,
+    out: &mut Printer<'_, O>,
+    err: &mut Printer<'_, E>,
+)
+    ensures { Continues (map (λ words. map (λ w. w.now) words.now) commands.now)
+        (S.files store.old) (S.files store.new) }
+{
+    for words in commands {
+        run_on(alloc, *words, store, out, err);
     }
 }
 
