@@ -34,7 +34,7 @@ abbrev trailer_of : TrailerFields → Record → TrailerFields
 trailer_of other (Trailer t) = t
 trailer_of other _ = other
 
-one_frame : (f g : Frame) (base : List Record) → HasFrame f base → HasFrame g base → f ≡ g
+pub one_frame : (f g : Frame) (base : List Record) → HasFrame f base → HasFrame g base → f ≡ g
 one_frame f g base p q =
     let d : Record = Header f.header in
     let header : f.header ≡ g.header = ap (header_of f.header) (sym (first-is f base d p) ∙ first-is g base d q) in

@@ -18,11 +18,13 @@ pub mod Scripted
 pub mod Withdrawing
 pub mod Origins
 pub mod Events
+pub mod Conflicts
 pub mod SavedDesks
 pub mod AcceptedTexts
 pub mod Offices
 pub mod Turns
 pub mod Prints
+pub mod PrintsOfBoth
 pub mod Verdict
 pub mod FirstProblem
 pub mod Timetables

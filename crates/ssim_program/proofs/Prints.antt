@@ -14,12 +14,12 @@ use Rattle.ssim_records.specs.declared.record.Record.{Record}
 use Rattle.ssim_records.specs.declared.record.Record.TheVariants.{Header, Carrier}
 use Rattle.ssim_held.specs.Entries.{DeskSeen, Entry, map_of}
 use Rattle.ssim_held.specs.File.{IsDeskFile, NoTwoDesks}
-use Rattle.ssim_base.specs.Timetable.{itinerary}
+use Rattle.ssim_base.specs.Timetable.{days_of, itinerary}
 use Rattle.ssim_desk.specs.DateSteps.{steps_on}
 use Rattle.ssim_desk.specs.Desk.{days_of_desk, entry_lines}
 use Rattle.ssim_desk.specs.Meaning.{found_by, left_by}
 use Rattle.ssim_command_line.specs.Line.{Text, Texts, Withdraw, Show, History, Board, Calendar}
-use Rattle.ssim_command_line.specs.Line.{Findings, Export, Listing, Problems}
+use Rattle.ssim_command_line.specs.Line.{Findings, Export, Listing, Problems, Tidy}
 use Rattle.ssim_program.specs.Acts.{Act, Print, printed_by}
 use Rattle.ssim_program.specs.Desks.{desk_in, flight_date}
 use Rattle.ssim_program.specs.Files.{Files}
@@ -31,13 +31,14 @@ use Rattle.ssim_program.specs.declared.print.printed_line.PrintedLine.TheVariant
 use Rattle.ssim_command_line.specs.declared.command_line.ListForm.{ListForm}
 use Rattle.ssim_program.specs.Answers.{chosen}
 use Rattle.ssim_program.specs.Messages.{SpellEach, flights_in, message_texts, messages_on}
-use Rattle.ssim_program.specs.Offices.{IsSameFile, PrintsTheSame}
+use Rattle.ssim_program.specs.Offices.{DiffPrintsTheSame, IsSameFile, PrintsTheSame}
 use Rattle.ssim_program.specs.Timetables.{BeginsAs, HasCarrier, ReadsAsDesk, ReadsTimetable, timetable_kind}
 use Rattle.ssim_program.specs.declared.explain.file_kind.FileKind.{FileKind}
 use Rattle.ssim_program.specs.declared.explain.file_kind.FileKind.TheVariants as kind
 use Rattle.ssim_board.specs.declared.board.Board.{Board as StationBoard}
 use Rattle.ssim_values.specs.declared.time_mode.TimeMode.{TimeMode}
 use Rattle.ssim_board.specs.InOrder.{board_of}
+use Rattle.ssim_difference.specs.Lines.{difference_lines}
 use Rattle.ssim_board.specs.Lines.{board_lines}
 use Rattle.ssim_program.specs.print.Calendar.{calendar_lines}
 use Rattle.ssim_program.specs.print.Listing.{printed_list}
@@ -51,11 +52,11 @@ abbrev board_at : TimeMode → List ℕ → ℕ → StationBoard
 board_at mode station day = record { station = station; day = day; mode = mode }
 
 -- a desk, whatever its latest change applied
-abbrev seen : BaseSeen → List Entry → DeskSeen
+abbrev pub seen : BaseSeen → List Entry → DeskSeen
 seen base held = record { base = base; held = held; applied = 0 }
 
 -- words spell one list of flights
-spell_once : (words : List Text) (flights others : List Designator) → SpellEach words flights → SpellEach words others → flights ≡ others
+pub spell_once : (words : List Text) (flights others : List Designator) → SpellEach words flights → SpellEach words others → flights ≡ others
 spell_once [] [] [] one other = refl
 spell_once (word ∷ words) (d ∷ flights) (e ∷ others) one other =
     ap₂ (λ (x : Designator) (xs : List Designator). x ∷ xs) (SpellsDesignator-unique d e word one.0 other.0) (spell_once words flights others one.1 other.1)
@@ -84,13 +85,13 @@ named_once airline flight date named other (d, spelled, (day, dated, (_, here, i
     is ∙ ap₂ (λ (x : Designator) (n : ℕ). (x, n)) designator same ∙ sym are
 
 -- words name one list of flights
-flights_once : (airline : List ℕ) (words : List Text) (flights others : List Designator) → flights_in airline words (Ok flights) → flights_in airline words (Ok others) → flights ≡ others
+pub flights_once : (airline : List ℕ) (words : List Text) (flights others : List Designator) → flights_in airline words (Ok flights) → flights_in airline words (Ok others) → flights ≡ others
 flights_once airline words flights others (_, _, (these, spelled, (_, here, is))) (_, _, (those, spelled_too, (_, here_too, are))) =
     is ∙ spell_once words these those spelled spelled_too ∙ sym are
 
 module _ (no_two : NoTwoDesks) where
   -- equal files are read as one desk
-  one_desk : (files others : Files) (name another : Text) (desk other : DeskSeen) → IsSameFile files name others another → desk_in (Some files) name (Ok desk) → desk_in (Some others) another (Ok other)
+  pub one_desk : (files others : Files) (name another : Text) (desk other : DeskSeen) → IsSameFile files name others another → desk_in (Some files) name (Ok desk) → desk_in (Some others) another (Ok other)
       → (desk.base ≡ other.base) × (desk.held ≡ other.held)
   one_desk files others name another desk other (bytes, here, there) (mine, has, is) (theirs, has_too, are) =
       let same : theirs ≡ mine = same_some theirs mine (sym has_too.1 ∙ there ∙ sym here ∙ has.1) in
@@ -194,6 +195,25 @@ module _ (no_two : NoTwoDesks) where
       first_of : Designator → List Designator → Designator
       first_of none [] = none
       first_of none (d ∷ ds) = d
+
+  pub diff_same : SameBytesSameBase → DiffPrintsTheSame
+  diff_same same_base files others from to here there acts again same same_too (bytes, (old, read, (new, reads, (mine, has, (theirs, is_carrier, (_, alike, is))))), all) (more, (first, read_too, (second, reads_too, (ours, has_too, (other, are_carrier, (_, alike_too, are))))), all_too) =
+      let one = same_timetable same_base files others from here old first same read read_too in
+      let two = same_timetable same_base files others to there new second same_too reads reads_too in
+      let carrier = one_carrier old.base.records first.base.records mine ours (ap (λ (b : BaseSeen). b.records) one.0) has has_too in
+      prints_same acts again bytes more all all_too
+      (is ∙ (λ i. difference_lines (carrier i).airline (days_of_desk (seen (one.0 i) (one.1 i))) (days_of_desk (seen (two.0 i) (two.1 i)))) ∙ sym are)
+
+-- equal files have the same canonical export
+pub tidy_same : SameBytesSameBase → PrintsTheSame Tidy
+tidy_same same_base files others name another acts again (bytes, here, there) (set, (_, (mine, at, left), read), (printed, is, all)) (that, (_, (theirs, at_too, left_too), reads), (more, are, all_too)) =
+    let same : mine ≡ bytes = same_some mine bytes (sym at ∙ here) in
+    let same_too : theirs ≡ bytes = same_some theirs bytes (sym at_too ∙ there) in
+    let first = subst (λ (l : Option (List ℕ)). IsWholeOf file_limit l (Ok (set.0, set.1))) (left ∙ ap Some same) read in
+    let second = subst (λ (l : Option (List ℕ)). IsWholeOf file_limit l (Ok (that.0, that.1))) (left_too ∙ ap Some same_too) reads in
+    let equal = same_base bytes file_limit file_limit set.0 that.0 set.1 that.1 first.0 second.0 in
+    prints_same acts again printed more all all_too
+    (one_export that.0 (days_of that.0) printed more (subst (λ (rs : List Record). IsExport rs (days_of rs) printed) equal.0 is) are)
 
 -- the lines of some problems of so many records
 abbrev lines_of : ℕ → List BaseFault → List ℕ

@@ -17,6 +17,7 @@ pub mod Offices
 pub mod Turns
 pub mod Runs
 pub mod Calls
+pub mod Conflicts
 pub mod rehearse
 pub mod Explained
 pub mod Timetables

@@ -1,7 +1,7 @@
 -- What is in desk files after any commands: offices to whose desks the same messages were brought
 -- have the same desk file.
 use Rattle.std.specs.Prelude.{◌≡◌, ◌⊎◌, ◌↔◌, ℕ, ◌≤◌, true, if◌then◌else◌, List, [], ◌∷◌, ◌++◌, length}
-use Rattle.std.specs.Prelude.{Option, Some, None, Result, Ok}
+use Rattle.std.specs.Prelude.{Option, Some, None, Result, Ok, Err}
 use Rattle.std.specs.Str.{bytes_eq}
 use Rattle.ssim_base.specs.BaseSeen.{BaseSeen}
 use Rattle.ssim_base.specs.Reading.{IsReadAs}
@@ -17,12 +17,13 @@ use Rattle.ssim_program.specs.Acts.{Act, is_whole, kept_by, printed_by}
 use Rattle.ssim_program.specs.Answer.{Answer}
 use Rattle.ssim_program.specs.Answers.{answers, merge, start, take, withdraw}
 use Rattle.ssim_program.specs.Files.{Files, file_of, with_kept}
-use Rattle.ssim_command_line.specs.Line.{Line, Text}
+use Rattle.ssim_command_line.specs.Line.{Line, Text, Diff}
 use Rattle.ssim_program.specs.Receiving.{IsAccepted, Receipt, received, received_files}
 use Rattle.ssim_program.specs.Receiving.{refused_texts, texts_received}
 use Rattle.ssim_program.specs.declared.refusal.Refusal.{Refusal}
 use Rattle.ssim_program.specs.Made.{HasFile, file_limit}
 use Rattle.ssim_program.specs.Withdrawing.{IsNamed}
+use Rattle.ssim_program.specs.print.Refusal.{IsMemory}
 
 -- ---- histories
 
@@ -258,4 +259,20 @@ PrintsTheSame command =
     → IsSameFile files name others another
     → answers (command name) (Some files) (Ok acts)
     → answers (command another) (Some others) (Ok again)
+    → printed_by acts ≡ printed_by again
+
+-- If the command prints of one of two equal files, it is refused of the other only if memory ran out.
+abbrev pub PrintsOfBoth : (Text → Line) → Type 0
+PrintsOfBoth command =
+    (files others : Files) (name another : Text) (acts : List Act) (why : Refusal)
+    → IsSameFile files name others another
+    → answers (command name) (Some files) (Ok acts)
+    → answers (command another) (Some others) (Err why) → IsMemory why
+
+-- of two pairs of equal files `diff` prints equal bytes
+abbrev pub DiffPrintsTheSame : Type 0
+DiffPrintsTheSame =
+    (files others : Files) (from to here there : Text) (acts again : List Act)
+    → IsSameFile files from others here → IsSameFile files to others there
+    → answers (Diff from to) (Some files) (Ok acts) → answers (Diff here there) (Some others) (Ok again)
     → printed_by acts ≡ printed_by again

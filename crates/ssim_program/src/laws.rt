@@ -2,12 +2,13 @@
 
 ghost use Rattle.std.specs.Prelude.{List};
 ghost use Rattle.ssim_command_line.specs.Line.{Board, Calendar, Export, Findings, History, Show, Text};
-ghost use Rattle.ssim_command_line.specs.Line.{Texts, Withdraw, Listing, Problems};
+ghost use Rattle.ssim_command_line.specs.Line.{Texts, Withdraw, Listing, Problems, Tidy};
 ghost use Rattle.ssim_command_line.specs.declared.command_line.ListForm.{ListForm};
 ghost use Rattle.ssim_program.specs.Again.{TidiesOnce};
 ghost use Rattle.ssim_program.specs.Calls.{CommandsAreEvents};
-ghost use Rattle.ssim_program.specs.Offices.{HoldsWhatWasBrought};
-ghost use Rattle.ssim_program.specs.Offices.{OfficesAgree, PrintsTheSame};
+ghost use Rattle.ssim_program.specs.Conflicts.{MergeMeetsTwo, TakeMeetsTwo};
+ghost use Rattle.ssim_program.specs.Offices.{DiffPrintsTheSame, HoldsWhatWasBrought};
+ghost use Rattle.ssim_program.specs.Offices.{OfficesAgree, PrintsOfBoth, PrintsTheSame};
 ghost use Rattle.ssim_program.specs.FirstProblem.{RefusalIsFirstProblem};
 ghost use Rattle.ssim_program.specs.Turns.{HoldsWhatCameInTurn, NothingHeldIsLost};
 ghost use Rattle.ssim_program.specs.Turns.{NothingTakenIsLost, TakesTurns};
@@ -67,9 +68,9 @@ pub fn nothing_taken_is_lost()
 /// Of two equal desk files `texts`, `show`, `history`, `list`, `board`, `calendar`, `findings` and
 /// `export` print the same: the messages, each flight on each date, which message did what to it,
 /// the periods or the dates of each flight, what is on a board, its calendar, what each sub-message
-/// found, and the chapter 7 data set, byte for byte. So do `list`, `board`, `calendar` and
-/// `problems` of two equal data sets, and `withdraw` of two equal desk files: what became of each
-/// reference.
+/// found, and the chapter 7 data set, byte for byte. So do `list`, `board` and `calendar` of two equal
+/// data sets, `diff` of two pairs of equal files, and `withdraw` of two equal desk files: what became
+/// of each reference.
 pub fn equal_files_print_the_same()
     ensures texts { (flights : List Text) → PrintsTheSame (λ file. Texts file flights) }
     ensures withdraw { (out : Text) (references : List Text)
@@ -80,14 +81,35 @@ pub fn equal_files_print_the_same()
     ensures list { (form : ListForm) (flights : List Text)
         → PrintsTheSame (λ file. Listing form file flights) }
     ensures calendar { (flight : Text) → PrintsTheSame (λ file. Calendar file flight) }
-    ensures problems { PrintsTheSame Problems }
+    ensures diff { DiffPrintsTheSame }
     ensures findings { PrintsTheSame Findings }
     ensures export { PrintsTheSame Export }
 {
     one_reference();
     no_two_desks_have_one_file();
     same_bytes_same_base();
+}
+
+/// Of two equal data sets `problems` and `tidy` print the same: every invalid record, and the
+/// canonical export.
+pub fn equal_data_sets_print_the_same()
+    ensures problems { PrintsTheSame Problems }
+    ensures tidy { PrintsTheSame Tidy }
+{
+    same_bytes_same_base();
     same_bytes_same_problems();
+}
+
+/// If `texts`, `show`, `history`, `findings` or `export` prints of one of two equal desk files, it is
+/// refused of the other only if memory runs out (90).
+pub fn equal_desk_files_are_read_the_same()
+    ensures texts { (flights : List Text) → PrintsOfBoth (λ file. Texts file flights) }
+    ensures show { (flight date : Text) → PrintsOfBoth (λ file. Show file flight date) }
+    ensures history { (flight date : Text) → PrintsOfBoth (λ file. History file flight date) }
+    ensures findings { PrintsOfBoth Findings }
+    ensures export { PrintsOfBoth Export }
+{
+    no_two_desks_have_one_file();
 }
 
 /// A script runs texts and merges on several desks. If the same messages reached all of them, by
@@ -106,6 +128,16 @@ pub fn refusal_is_first_problem()
     ensures { RefusalIsFirstProblem }
 {
     frames_are_one();
+}
+
+/// If `take` or `merge` is refused for a conflict (60), two different messages have its reference, of
+/// those that the desks hold and the texts say. So if no originator gives two messages one reference,
+/// none is refused so.
+pub fn conflicts_have_two_messages()
+    ensures take { TakeMeetsTwo }
+    ensures merge { MergeMeetsTwo }
+{
+    one_message();
 }
 
 /// A refusal with the number 90 has the line `refused 90 Memory`, whichever fault it wraps.
