@@ -3,3 +3,4 @@ pub mod TableLoops
 pub mod PlainWords
 pub mod Readings
 pub mod Lines
+pub mod Examples

@@ -8,10 +8,6 @@ use Rattle.ssim_command_line.specs.declared.command_line.LineFault.{LineFault}
 use Rattle.ssim_command_line.specs.declared.command_line.LineFault.TheVariants as fault
 use Rattle.ssim_command_line.specs.Usage.{whole_program, Names, IsNoCommand}
 
--- the words name some command
-abbrev pub IsCommand : List Text → Type 0
-IsCommand words = (line : Line) × Names words line
-
 -- the fault of the command line is one of these words
 abbrev pub IsFaultOf : List Text → LineFault → Type 0
 IsFaultOf words fault.Memory = ⊤

@@ -1,0 +1,23 @@
+-- Lines with options, computed: which command the words name.
+use Rattle.std.proofs.Common.{true, false, refl, List, [], ◌∷◌, Some, codes}
+use Rattle.clap.proofs.OnLiterals.{clap_on_literals}
+use Rattle.ssim_command_line.specs.Line.{Listing, Receive}
+use Rattle.ssim_command_line.specs.Usage.{Names}
+
+-- `list --csv summer.ssim`
+as_csv : Names (codes "ssimdesk" ∷ codes "list" ∷ codes "--csv" ∷ codes "summer.ssim" ∷ [])
+    (Listing (record { csv = true; dates = false }) (codes "summer.ssim") [])
+unfolding clap_on_literals
+as_csv = record { right = refl; name = codes "list"; rows = _; entered = refl; read = refl }
+
+-- `list summer.ssim Z7341 --dates`: the option last
+by_date : Names (codes "ssimdesk" ∷ codes "list" ∷ codes "summer.ssim" ∷ codes "Z7341" ∷ codes "--dates" ∷ [])
+    (Listing (record { csv = false; dates = true }) (codes "summer.ssim") (codes "Z7341" ∷ []))
+unfolding clap_on_literals
+by_date = record { right = refl; name = codes "list"; rows = _; entered = refl; read = refl }
+
+-- `receive --refused back fdh.desk fdh.desk mail`
+with_refused : Names (codes "ssimdesk" ∷ codes "receive" ∷ codes "--refused" ∷ codes "back" ∷ codes "fdh.desk" ∷ codes "fdh.desk" ∷ codes "mail" ∷ [])
+    (Receive (Some (codes "back")) (codes "fdh.desk") (codes "fdh.desk") (codes "mail" ∷ []))
+unfolding clap_on_literals
+with_refused = record { right = refl; name = codes "receive"; rows = _; entered = refl; read = refl }
