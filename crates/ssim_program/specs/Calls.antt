@@ -5,7 +5,8 @@ use Rattle.ssim_command_line.specs.Usage.{Names}
 use Rattle.ssim_program.specs.Answers.{answers}
 use Rattle.ssim_program.specs.Files.{Files}
 use Rattle.ssim_program.specs.Offices.{Event, Happened, History, Leaves, Then, files_of}
-use Rattle.ssim_program.specs.Offices.{StartKept, TakeKept, ReceiveKept, MergeKept, WithdrawKept, Unchanged, Came}
+use Rattle.ssim_program.specs.Offices.{StartKept, TakeKept, ReceiveKept, MergeKept, WithdrawKept}
+use Rattle.ssim_program.specs.Offices.{Unchanged, Came}
 use Rattle.ssim_program.specs.Receiving.{Receipt}
 use Rattle.ssim_program.specs.World.{Does, World}
 use Rattle.ssim_program.specs.declared.refusal.Refusal.{Refusal}

@@ -274,5 +274,6 @@ abbrev pub DiffPrintsTheSame : Type 0
 DiffPrintsTheSame =
     (files others : Files) (from to here there : Text) (acts again : List Act)
     → IsSameFile files from others here → IsSameFile files to others there
-    → answers (Diff from to) (Some files) (Ok acts) → answers (Diff here there) (Some others) (Ok again)
+    → answers (Diff from to) (Some files) (Ok acts)
+    → answers (Diff here there) (Some others) (Ok again)
     → printed_by acts ≡ printed_by again

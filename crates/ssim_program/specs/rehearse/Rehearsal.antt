@@ -224,4 +224,5 @@ abbrev pub RefusesLines : Option Files → Text → Text → Text → Refusal �
 RefusesLines files dataset stations script refusal =
     IsMemory refusal
     ⊎ base_in files dataset stations (Err refusal)
-    ⊎ ((base : BaseSeen) × base_in files dataset stations (Ok base) × RefusesSteps files script refusal)
+    ⊎ ((base : BaseSeen) × base_in files dataset stations (Ok base)
+    × RefusesSteps files script refusal)

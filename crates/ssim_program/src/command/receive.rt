@@ -127,9 +127,11 @@ fn hold_places<S: Store>(
     ensures names { IfOk result (λ places. (S.Hold.file places.desk ≡ out.now)
         × (option_map S.Hold.file places.refused ≡ option_map (λ t. t.now) refused.entry)) }
     ensures held { IfOk result (λ _. places_in (S.files store.old)
-        (option_map (λ t. t.now) refused.entry) file.now out.now (map (λ t. t.now) names.now) (Ok tt)) }
+        (option_map (λ t. t.now) refused.entry) file.now out.now
+        (map (λ t. t.now) names.now) (Ok tt)) }
     ensures refused { IfErr result (λ why. places_in (S.files store.old)
-        (option_map (λ t. t.now) refused.entry) file.now out.now (map (λ t. t.now) names.now) (Err why)) }
+        (option_map (λ t. t.now) refused.entry) file.now out.now
+        (map (λ t. t.now) names.now) (Err why)) }
     ensures same { S.files store.new ≡ S.files store.old }
     ensures counted { S.failures store.new ≡ S.failures store.old }
 {
