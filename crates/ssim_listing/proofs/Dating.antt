@@ -21,7 +21,7 @@ filter_made : {X Y : Type 0} (p : Y → Bool) (f : X → List Y) (xs : List X) �
 filter_made p f [] = refl
 filter_made p f (x ∷ xs) = filter-append p (f x) (flat_map f xs) ∙ ap (λ ys. filter p (f x) ++ ys) (filter_made p f xs)
 
-map_made : {X Y Z : Type 0} (g : Y → Z) (f : X → List Y) (xs : List X) → map g (flat_map f xs) ≡ flat_map (λ x. map g (f x)) xs
+pub map_made : {X Y Z : Type 0} (g : Y → Z) (f : X → List Y) (xs : List X) → map g (flat_map f xs) ≡ flat_map (λ x. map g (f x)) xs
 map_made g f [] = refl
 map_made g f (x ∷ xs) = map-append g (f x) (flat_map f xs) ∙ ap (λ ys. map g (f x) ++ ys) (map_made g f xs)
 

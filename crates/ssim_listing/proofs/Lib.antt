@@ -4,5 +4,6 @@ pub mod Grouping
 pub mod Every
 pub mod Ranked
 pub mod Dating
+pub mod DatedTexts
 pub mod GroupMaps
 pub mod IsoDates

@@ -8,13 +8,13 @@ use Rattle.ssim_listing.proofs.Ranges.{added_next}
 use Rattle.ssim_listing.proofs.dates.add_dates.Goals as goal
 
 pub loop-number-preserved : goal.loop-number-preserved
-loop-number-preserved c =
+loop-number-preserved g c =
     added_next (dates_on (c.args.piece.now ∷ [])) (seen_dates c.args.dates.now.items)
     (seen_dates c.loop-number.dates.items) (seen_dates c.add_date.new.dates.items) c.number-first.result
     c.loop-number.number c.loop-number.auto.number c.loop-number.invariant c.in_ok-add_date.ensures
 
 pub returns : goal.returns
-returns c =
+returns g c =
     let piece = c.args.piece.now in let period = c.first.ensures.period in
     let first = c.number-first.ensures.value ∙ c.first.ensures.value in
     let last = c.number-last.ensures.value ∙ c.last.ensures.value in

@@ -10,7 +10,7 @@ use Rattle.ssim_listing.proofs.Ranked.{sorted_is, stable_from_sort}
 use Rattle.ssim_listing.proofs.dates.dates_of.Goals as goal
 
 pub returns : goal.returns
-returns c =
+returns g c =
     let pieces = c.args.pieces.now in
     let dates = c.loop-piece.dates.items in let sorted = c.sort_by_key.new.self.items in
     let done : length pieces ≤ c.loop-piece.piece-index = omega arith in

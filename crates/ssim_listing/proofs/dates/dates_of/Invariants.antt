@@ -4,4 +4,4 @@ use Rattle.ssim_listing.specs.internal.FlightDates.{dates_by_piece, seen_dates}
 use Rattle.ssim_listing.proofs.dates.dates_of.Given as goal
 
 abbrev pub invariant-loop-piece : goal.invariant-loop-piece
-invariant-loop-piece l = seen_dates l.dates.items ≡ dates_by_piece (take l.piece-index l.pieces)
+invariant-loop-piece g l = seen_dates l.dates.items ≡ dates_by_piece (take l.piece-index l.pieces)
