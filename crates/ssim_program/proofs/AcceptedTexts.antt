@@ -25,13 +25,13 @@ use Rattle.ssim_program.proofs.SavedDesks.{IsValid, valid_take}
 
 -- ---- the texts of a file
 
-within_limit : (bytes : List ℕ) → length bytes ≤ file_limit → texts_within (Some bytes) ≡ texts_in bytes
+pub within_limit : (bytes : List ℕ) → length bytes ≤ file_limit → texts_within (Some bytes) ≡ texts_in bytes
 within_limit bytes short = elim (leb_tells (length bytes) file_limit) [
   | inl short_too ↦ ap (λ (b : Bool). cond b (texts_in bytes) []) short_too.0
   | inr over ↦ absurd (omega (arith, short, over.1))
 ]
 
-missing : (file : Option (List ℕ)) → IfSome file (λ bytes. file_limit < length bytes) → texts_within file ≡ []
+pub missing : (file : Option (List ℕ)) → IfSome file (λ bytes. file_limit < length bytes) → texts_within file ≡ []
 missing None none = refl
 missing (Some bytes) long = elim (leb_tells (length bytes) file_limit) [
   | inl short_too ↦ absurd (omega (arith, long, short_too.1))

@@ -21,8 +21,10 @@ pub mod Events
 pub mod Conflicts
 pub mod SavedDesks
 pub mod AcceptedTexts
+pub mod ReceivedConflicts
 pub mod Offices
 pub mod Turns
+pub mod OneCount
 pub mod Prints
 pub mod PrintsOfBoth
 pub mod Verdict

@@ -3,9 +3,11 @@ use Rattle.std.proofs.Common.{◌≡◌, ◌∙◌, ℕ, List, [], ◌∷◌, �
 use Rattle.std.specs.Prelude.{IfSome}
 use Rattle.ssim_values.proofs.DesignatorLemmas.{SpellsDesignator-unique}
 use Rattle.ssim_text.specs.Reference.{OneReference}
+use Rattle.ssim_values.specs.Flight.{FlightNumber}
 use Rattle.ssim_values.specs.declared.designator.Designator.{Designator}
 use Rattle.ssim_base.specs.Base.{airline_of}
-use Rattle.ssim_base.specs.BaseSeen.{BaseSeen, base_with}
+use Rattle.ssim_base.specs.BaseSeen.{AreFlights, BaseSeen, base_with}
+use Rattle.ssim_base.specs.declared.note.Note.{Note}
 use Rattle.ssim_base.specs.Problems.{HasProblems, SameBytesSameProblems}
 use Rattle.ssim_base.specs.Reading.{IsWholeOf, SameBytesSameBase}
 use Rattle.ssim_base.specs.declared.fault.BaseFault.{BaseFault}
@@ -19,13 +21,13 @@ use Rattle.ssim_desk.specs.DateSteps.{steps_on}
 use Rattle.ssim_desk.specs.Desk.{days_of_desk, entry_lines}
 use Rattle.ssim_desk.specs.Meaning.{found_by, left_by}
 use Rattle.ssim_command_line.specs.Line.{Text, Texts, Withdraw, Show, History, Board, Calendar}
-use Rattle.ssim_command_line.specs.Line.{Findings, Export, Listing, Problems, Tidy}
+use Rattle.ssim_command_line.specs.Line.{Check, Findings, Export, Listing, Problems, Tidy}
 use Rattle.ssim_program.specs.Acts.{Act, Print, printed_by}
 use Rattle.ssim_program.specs.Desks.{desk_in, flight_date}
 use Rattle.ssim_program.specs.Files.{Files}
 use Rattle.std.specs.List.{flat_map}
 use Rattle.ssim_base.specs.Export.{line}
-use Rattle.ssim_program.specs.Made.{IsExport, file_limit, problem_line}
+use Rattle.ssim_program.specs.Made.{IsExport, file_limit, problem_line, summary_lines}
 use Rattle.ssim_program.specs.print.PrintedLine.{printed_text}
 use Rattle.ssim_program.specs.declared.print.printed_line.PrintedLine.TheVariants as printed_line
 use Rattle.ssim_command_line.specs.declared.command_line.ListForm.{ListForm}
@@ -45,6 +47,7 @@ use Rattle.ssim_program.specs.print.Listing.{printed_list}
 use Rattle.ssim_program.specs.print.Shown.{findings_lines, history_lines, shown_flight}
 use Rattle.ssim_program.specs.Withdrawing.{Withdraws}
 use Rattle.ssim_program.proofs.Again.{one_export}
+use Rattle.ssim_program.proofs.OneCount.{one_count}
 use Rattle.ssim_program.proofs.Origins.{same_some}
 use Rattle.ssim_program.proofs.Withdrawing.{printed_once}
 
@@ -214,6 +217,19 @@ tidy_same same_base files others name another acts again (bytes, here, there) (s
     let equal = same_base bytes file_limit file_limit set.0 that.0 set.1 that.1 first.0 second.0 in
     prints_same acts again printed more all all_too
     (one_export that.0 (days_of that.0) printed more (subst (λ (rs : List Record). IsExport rs (days_of rs) printed) equal.0 is) are)
+
+-- equal files have the same notes and summary
+pub check_same : SameBytesSameBase → PrintsTheSame Check
+check_same same_base files others name another acts again (bytes, here, there) (printed, (set, (_, (mine, at, left), read), (flights, counted, is)), all) (more, (that, (_, (theirs, at_too, left_too), reads), (flights_too, counted_too, are)), all_too) =
+    let same : mine ≡ bytes = same_some mine bytes (sym at ∙ here) in
+    let same_too : theirs ≡ bytes = same_some theirs bytes (sym at_too ∙ there) in
+    let first = subst (λ (l : Option (List ℕ)). IsWholeOf file_limit l (Ok (set.0, set.1))) (left ∙ ap Some same) read in
+    let second = subst (λ (l : Option (List ℕ)). IsWholeOf file_limit l (Ok (that.0, that.1))) (left_too ∙ ap Some same_too) reads in
+    let equal = same_base bytes file_limit file_limit set.0 that.0 set.1 that.1 first.0 second.0 in
+    let count = one_count that.0 flights flights_too (subst (λ (rs : List Record). AreFlights rs flights) equal.0 counted) counted_too in
+    prints_same acts again printed more all all_too
+    (is ∙ ap₂ (λ (rs : List Record) (fs : List FlightNumber). summary_lines (length rs) (length fs) set.1) equal.0 count
+    ∙ ap (λ (ns : List Note). summary_lines (length that.0) (length flights_too) ns) equal.1 ∙ sym are)
 
 -- the lines of some problems of so many records
 abbrev lines_of : ℕ → List BaseFault → List ℕ

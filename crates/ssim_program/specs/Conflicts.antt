@@ -1,9 +1,11 @@
--- Of which messages a command speaks that is refused for a conflict (60).
+-- Of which messages a command or a line speaks that is refused for a conflict (60).
 use Rattle.std.specs.Prelude.{◌≡◌, ◌≢◌, ◌⊎◌, List, [], ◌∷◌, ◌++◌, Some, Ok, Err}
 use Rattle.ssim_text.specs.Message.{MessageValue}
 use Rattle.ssim_text.specs.declared.reference.Reference.{Reference}
+use Rattle.ssim_base.specs.BaseSeen.{BaseSeen}
+use Rattle.ssim_mailbox.specs.Texts.{MailText}
 use Rattle.ssim_held.specs.Entries.{DeskSeen, state_of}
-use Rattle.ssim_held.specs.Held.{Holds}
+use Rattle.ssim_held.specs.Held.{Holds, Says}
 use Rattle.ssim_held.specs.declared.fault.DeskFault.TheVariants as desk_fault
 use Rattle.ssim_command_line.specs.Line.{Text}
 use Rattle.ssim_program.specs.Acts.{Act, Acts, Stop}
@@ -11,6 +13,8 @@ use Rattle.ssim_program.specs.Answers.{merge, take}
 use Rattle.ssim_program.specs.Desks.{desk_in}
 use Rattle.ssim_program.specs.Files.{Files}
 use Rattle.ssim_program.specs.Offices.{IsSaid}
+use Rattle.ssim_program.specs.Receiving.{Accepted, Receipt, Refused, Unread, received}
+use Rattle.ssim_program.specs.Receiving.{texts_received}
 use Rattle.ssim_program.specs.declared.refusal.Refusal.{Refusal}
 use Rattle.ssim_program.specs.declared.refusal.Refusal.TheVariants as refused
 
@@ -44,3 +48,33 @@ MergeMeetsTwo =
     → (one : DeskSeen) × (other : DeskSeen) × desk_in (Some files) mine (Ok one)
     × desk_in (Some files) theirs (Ok other)
     × HasTwo (λ m. Holds (state_of one) reference m ⊎ Holds (state_of other) reference m)
+
+-- one of these texts says the message over the base
+abbrev pub IsSaidByOne : BaseSeen → List MailText → Reference → MessageValue → Type 0
+IsSaidByOne base [] reference message = ⊥
+IsSaidByOne base (text ∷ texts) reference message =
+    Says base text.bytes reference message ⊎ IsSaidByOne base texts reference message
+
+-- the receipt is that of a text that is refused for a conflict at this reference
+abbrev pub IsConflict : Reference → Receipt → Type 0
+IsConflict reference (Accepted file n answer other) = ⊥
+IsConflict reference (Refused file text fault) = fault ≡ desk_fault.Conflict reference
+IsConflict reference (Unread file) = ⊥
+
+-- one of these receipts is
+abbrev pub HasConflict : Reference → List Receipt → Type 0
+HasConflict reference [] = ⊥
+HasConflict reference (receipt ∷ receipts) =
+    IsConflict reference receipt ⊎ HasConflict reference receipts
+
+-- If `receive` refuses a text with 60, two different messages have the reference, of those that its
+-- desk holds and those that the texts of its mailboxes say.
+abbrev pub ReceiveMeetsTwo : Type 0
+ReceiveMeetsTwo =
+    (files : Files) (name : Text) (mailboxes : List Text) (receipts : List Receipt)
+    (after : DeskSeen) (reference : Reference)
+    → received (Some files) name mailboxes (Ok (receipts, after))
+    → HasConflict reference receipts
+    → (desk : DeskSeen) × desk_in (Some files) name (Ok desk)
+    × HasTwo (λ m. Holds (state_of desk) reference m
+    ⊎ IsSaidByOne desk.base (texts_received files mailboxes) reference m)

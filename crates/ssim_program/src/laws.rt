@@ -1,12 +1,12 @@
 //! What holds of the bytes that the commands write, and of desk files after any commands.
 
 ghost use Rattle.std.specs.Prelude.{List};
-ghost use Rattle.ssim_command_line.specs.Line.{Board, Calendar, Export, Findings, History, Show, Text};
-ghost use Rattle.ssim_command_line.specs.Line.{Texts, Withdraw, Listing, Problems, Tidy};
+ghost use Rattle.ssim_command_line.specs.Line.{Board, Calendar, Check, Export, Findings, History, Show};
+ghost use Rattle.ssim_command_line.specs.Line.{Text, Texts, Withdraw, Listing, Problems, Tidy};
 ghost use Rattle.ssim_command_line.specs.declared.command_line.ListForm.{ListForm};
 ghost use Rattle.ssim_program.specs.Again.{TidiesOnce};
 ghost use Rattle.ssim_program.specs.Calls.{CommandsAreEvents};
-ghost use Rattle.ssim_program.specs.Conflicts.{MergeMeetsTwo, TakeMeetsTwo};
+ghost use Rattle.ssim_program.specs.Conflicts.{MergeMeetsTwo, ReceiveMeetsTwo, TakeMeetsTwo};
 ghost use Rattle.ssim_program.specs.Offices.{DiffPrintsTheSame, HoldsWhatWasBrought};
 ghost use Rattle.ssim_program.specs.Offices.{OfficesAgree, PrintsOfBoth, PrintsTheSame};
 ghost use Rattle.ssim_program.specs.FirstProblem.{RefusalIsFirstProblem};
@@ -90,9 +90,10 @@ pub fn equal_files_print_the_same()
     same_bytes_same_base();
 }
 
-/// Of two equal data sets `problems` and `tidy` print the same: every invalid record, and the
-/// canonical export.
+/// Of two equal data sets `check`, `problems` and `tidy` print the same: the notes and the summary,
+/// every invalid record, and the canonical export.
 pub fn equal_data_sets_print_the_same()
+    ensures check { PrintsTheSame Check }
     ensures problems { PrintsTheSame Problems }
     ensures tidy { PrintsTheSame Tidy }
 {
@@ -130,12 +131,13 @@ pub fn refusal_is_first_problem()
     frames_are_one();
 }
 
-/// If `take` or `merge` is refused for a conflict (60), two different messages have its reference, of
-/// those that the desks hold and the texts say. So if no originator gives two messages one reference,
-/// none is refused so.
+/// If `take` or `merge`, or a text of `receive`, is refused for a conflict (60), two different messages
+/// have its reference, of those that the desks hold and the texts say. So if no originator gives two
+/// messages one reference, none is refused so.
 pub fn conflicts_have_two_messages()
     ensures take { TakeMeetsTwo }
     ensures merge { MergeMeetsTwo }
+    ensures receive { ReceiveMeetsTwo }
 {
     one_message();
 }
