@@ -1,12 +1,12 @@
 -- The texts of the file of messages, message by message: each begins with its originator or its
--- kind, and its later lines are plain.
+-- kind, and its later lines are plain. A line NNNN or an empty line is below each.
 use Rattle.std.proofs.Common.{◌≡◌, ◌≤◌, ℕ, ◌+◌, Bool, true, false, List, [], ◌∷◌, ◌++◌, map}
-use Rattle.std.proofs.Common.{drop, length, refl, ap, subst, ◌∙◌, append_assoc, arith, codes, Some}
+use Rattle.std.proofs.Common.{drop, length, refl, sym, ap, subst, ◌∙◌, append_assoc, arith, codes, Option, None, Some}
 use Rattle.std.proofs.lemmas.Bool.{and_parts}
-use Rattle.std.specs.List.{AllByRecursion, list_all}
+use Rattle.std.specs.List.{AllByRecursion, flat_map, list_all, onto_first}
 use Rattle.std.specs.Str.{bytes_eq}
 use Rattle.ssim_values.specs.declared.designator.Designator.{Designator}
-use Rattle.ssim_text.specs.Canonical.{canonical, canonical_parts}
+use Rattle.ssim_text.specs.Canonical.{canonical, canonical_parts, part_text}
 use Rattle.ssim_text.specs.Grammar.{FreePart, KindPart, LegPart, ModePart, Part}
 use Rattle.ssim_text.specs.Grammar.{ReferencePart, SegmentPart, body_parts, flight_parts, free_parts}
 use Rattle.ssim_text.specs.Grammar.{later_parts, new_parts, sub_parts, subs_parts}
@@ -25,15 +25,17 @@ use Rattle.ssim_text.specs.declared.segment.SegmentLine.{SegmentLine}
 use Rattle.ssim_text.proofs.BoundsLemmas.{spelled_reference_bounded}
 use Rattle.ssim_text.proofs.LinesKept.{ReadsAgain}
 use Rattle.ssim_text.proofs.ReadsBack.{all_both, all_right, spelled_again}
-use Rattle.ssim_mailbox.specs.Lines.{MailLine, lines_from}
+use Rattle.ssim_text.specs.declared.kind.Kind.TheVariants.{Asm, Ssm}
+use Rattle.ssim_mailbox.specs.Lines.{MailLine, dot_after, lines_from}
 use Rattle.ssim_mailbox.specs.FreeTexts.{cut_parts}
-use Rattle.ssim_mailbox.specs.Texts.{MailText, is_empty, parts_of, text_from, texts_of, trimmed}
-use Rattle.ssim_mailbox.proofs.WholeParts.{whole_first}
-use Rattle.ssim_outbox.specs.MailFile.{IsMail, MailboxesRead, SentAreMail, is_plain, mail_file, mail_texts}
+use Rattle.ssim_mailbox.specs.Texts.{MailText, parts_of, texts_of}
+use Rattle.ssim_outbox.specs.MailFile.{IsMail, JoinedTextsRead, MailboxesRead, SentAreMail, is_plain}
+use Rattle.ssim_outbox.specs.MailFile.{mail_file, mail_texts}
 use Rattle.ssim_outbox.specs.internal.Texts.{heading_parts}
-use Rattle.ssim_outbox.proofs.MailRead.{IsPlainPart, kind_parts, lines_left, marked, marked_text}
-use Rattle.ssim_outbox.proofs.MailRead.{none_empty, origin_parts, parts_below}
-use Rattle.ssim_outbox.proofs.PlainLines.{IsLaterPart, part_plain}
+use Rattle.ssim_outbox.proofs.MailLines.{first_line, mail_line}
+use Rattle.ssim_outbox.proofs.MailRead.{IsBelow, IsPlainPart, IsQuiet, blank_line, dot_below, first_text}
+use Rattle.ssim_outbox.proofs.MailRead.{kind_parts, lines_left, marked, marked_text, none_empty, origin_parts}
+use Rattle.ssim_outbox.proofs.PlainLines.{IsLaterPart, IsPlain, part_plain}
 use Rattle.ssim_outbox.proofs.Together.{choice, heading_again, own_lines}
 
 -- ---- the parts of sub-messages are later ones
@@ -138,55 +140,113 @@ both_hold (p ∷ parts) h k =
 
 -- ---- the parts of the lines of a message
 
-parts_at : (blank : Bool) (n : ℕ) (o : List ℕ) (kind : Kind) (ps : List Part) (rest : List ℕ)
+-- no line of plain parts begins with a dot
+no_dot_below : (ps : List Part) → AllByRecursion IsPlainPart ps → dot_below false ps ≡ false
+no_dot_below [] h = refl
+no_dot_below (p ∷ ps) h = ap (λ (d : Bool). dot_below d ps) (no_dot (part_text p) h.0.plain) ∙ no_dot_below ps h.1
+  where
+    no_dot : (line : List ℕ) → IsPlain line → dot_after false line ≡ false
+    no_dot [] plain = refl
+    no_dot (b ∷ line) plain = plain.no_dot
+
+no_dot_at : (blank : Bool) (o : List ℕ) (kind : Kind) (ps : List Part) → AllByRecursion IsPlainPart ps → dot_below false (choice blank o ++ KindPart kind ∷ ps) ≡ false
+no_dot_at true o Ssm ps h = no_dot_below ps h
+no_dot_at true o Asm ps h = no_dot_below ps h
+no_dot_at false o Ssm ps h = no_dot_below ps h
+no_dot_at false o Asm ps h = no_dot_below ps h
+
+parts_at : (blank : Bool) (n : ℕ) (o : List ℕ) (kind : Kind) (ps : List Part) (below : List ℕ) (first : List MailLine) (parts : List (List MailLine))
     → AllByRecursion ReadsAgain (choice blank o ++ KindPart kind ∷ ps) → AllByRecursion IsPlainPart ps
-    → parts_of (lines_left n false (choice blank o ++ KindPart kind ∷ ps) rest)
-    ≡ [] ∷ marked n false (choice blank o ++ KindPart kind ∷ ps)
-    ∷ parts_below n (choice blank o ++ KindPart kind ∷ ps) rest
-parts_at true n o kind ps rest again h = kind_parts n kind ps rest h
-parts_at false n o kind ps rest again h = origin_parts n o kind ps rest again.0.line h
+    → IsBelow (n + length (choice blank o ++ KindPart kind ∷ ps)) (dot_below false (choice blank o ++ KindPart kind ∷ ps)) below first parts
+    → parts_of (lines_left n false (choice blank o ++ KindPart kind ∷ ps) below)
+    ≡ [] ∷ (marked n false (choice blank o ++ KindPart kind ∷ ps) ++ first) ∷ parts
+parts_at true n o kind ps below first parts again h is = kind_parts n kind ps below first parts h is
+parts_at false n o kind ps below first parts again h is = origin_parts n o kind ps below first parts again.0.line h is
 
 some_at : (blank : Bool) (o : List ℕ) (p : Part) (ps : List Part) → 1 ≤ length (choice blank o ++ p ∷ ps)
 some_at true o p ps = omega arith
 some_at false o p ps = omega arith
 
-message_parts : (m : MessageValue) (n : ℕ) (rest : List ℕ) → IsMail m
-    → parts_of (lines_left n false (canonical_parts m) rest)
-    ≡ [] ∷ marked n false (canonical_parts m) ∷ parts_below n (canonical_parts m) rest
-message_parts m n rest mail =
+-- the parts of a message, and of what is below it
+message_parts : (m : MessageValue) (n : ℕ) (below : List ℕ) (first : List MailLine) (parts : List (List MailLine)) → IsMail m
+    → IsBelow (n + length (canonical_parts m)) false below first parts
+    → parts_of (lines_left n false (canonical_parts m) below) ≡ [] ∷ (marked n false (canonical_parts m) ++ first) ∷ parts
+message_parts m n below first parts mail is =
     let again = parts_again m mail in
     let blank = bytes_eq m.originator no_originator in
+    let own = canonical_parts m in
     let later = all_right ReadsAgain (choice blank m.originator) (KindPart m.kind ∷ after_kind m) again in
-    parts_at blank n m.originator m.kind (after_kind m) rest again
-    (both_hold (after_kind m) (after_kind_later m mail.free) later.1)
+    let plain = both_hold (after_kind m) (after_kind_later m mail.free) later.1 in
+    let dotted = subst (λ (d : Bool). IsBelow (n + length own) d below first parts) (sym (no_dot_at blank m.originator m.kind (after_kind m) plain)) is in
+    parts_at blank n m.originator m.kind (after_kind m) below first parts again plain dotted
 
--- ---- the texts
+-- the text of the lines of a message, and those of the parts below them
+own_text : (m : MessageValue) (n : ℕ) (last : Option ℕ) (parts : List (List MailLine)) (texts : List MailText) → IsMail m → texts_of (cut_parts parts) ≡ texts
+    → texts_of (cut_parts ([] ∷ (marked n false (canonical_parts m) ++ blank_line last) ∷ parts)) ≡ record { line = n; bytes = canonical m } ∷ texts
+own_text m n last parts texts mail are =
+    let own = canonical_parts m in
+    let some = some_at (bytes_eq m.originator no_originator) m.originator (KindPart m.kind) (after_kind m) in
+    let lines = own_lines own (parts_again m mail) in
+    first_text (marked n false own) last parts (record { line = n; bytes = canonical m }) texts (none_empty n false own lines) (marked_text n false own last some lines) are
 
--- the first text, whose part has no empty line, and those of the parts below it
-first_text : (lines : List MailLine) (parts : List (List MailLine)) (text : MailText)
-    (texts : List MailText) → AllByRecursion (λ line. is_empty line ≡ false) lines
-    → text_from (trimmed lines) ≡ Some text → texts_of (cut_parts parts) ≡ texts
-    → texts_of (cut_parts ([] ∷ lines ∷ parts)) ≡ text ∷ texts
-first_text lines parts text texts some h k =
-    let whole = whole_first lines parts some in
-    ap (λ (x : List (List MailLine)). texts_of ([] ∷ x)) whole ∙ rw (h, k) refl
+-- the text of a message, and those of what is below it
+message_text : (m : MessageValue) (n : ℕ) (below : List ℕ) (last : Option ℕ) (parts : List (List MailLine)) (texts : List MailText) → IsMail m
+    → IsBelow (n + length (canonical_parts m)) false below (blank_line last) parts → texts_of (cut_parts parts) ≡ texts
+    → texts_of (cut_parts (parts_of (lines_left n false (canonical_parts m) below))) ≡ record { line = n; bytes = canonical m } ∷ texts
+message_text m n below last parts texts mail is are =
+    ap (λ (x : List (List MailLine)). texts_of (cut_parts x)) (message_parts m n below (blank_line last) parts mail is)
+    ∙ own_text m n last parts texts mail are
+
+-- ---- the texts of a file, a line NNNN after each
+
+end_line : (k : ℕ) (d : Bool) (rest : List ℕ) → lines_from k d (pieces (codes "NNNN\n" ++ rest)) ≡ mail_line k d (codes "NNNN") ∷ lines_from (k + 1) false (pieces rest)
+end_line k d rest = first_line k d (codes "NNNN") rest (record { some = omega arith; printable = refl; ended = refl })
+
+quiet_end : (k : ℕ) (d : Bool) (below : List MailLine) → IsQuiet (mail_line k d (codes "NNNN") ∷ below)
+quiet_end k d below = record { message = refl; origin = refl; addresses = refl }
+
+below_end : (k : ℕ) (rest : List ℕ) → IsBelow k false (codes "NNNN\n" ++ rest) [] (parts_of (lines_from (k + 1) false (pieces rest)))
+below_end k rest = record {
+  quiet = λ n d. subst IsQuiet (sym (end_line n d rest)) (quiet_end n d (lines_from (n + 1) false (pieces rest)));
+  divided = ap parts_of (end_line k false rest);
+}
 
 read_from : (n : ℕ) (messages : List MessageValue) → AllByRecursion IsMail messages
-    → texts_of (cut_parts (parts_of (lines_from n false (pieces (mail_file messages)))))
-    ≡ mail_texts n messages
+    → texts_of (cut_parts (parts_of (lines_from n false (pieces (mail_file messages))))) ≡ mail_texts n messages
 read_from n [] h = refl
 read_from n (m ∷ messages) h =
     let rest = mail_file messages in
-    let parts = canonical_parts m in
-    let some = some_at (bytes_eq m.originator no_originator) m.originator (KindPart m.kind) (after_kind m) in
-    let lines = own_lines parts (parts_again m h.0) in
-    ap (λ (x : List ℕ). texts_of (cut_parts (parts_of (lines_from n false (pieces x)))))
-    (append_assoc (canonical m) (codes "NNNN\n") rest)
-    ∙ ap (λ (x : List (List MailLine)). texts_of (cut_parts x)) (message_parts m n rest h.0)
-    ∙ first_text (marked n false parts) (parts_below n parts rest)
-    (record { line = n; bytes = canonical m }) (mail_texts (n + length parts + 1) messages)
-    (none_empty n false parts lines) (marked_text n false parts some lines)
-    (read_from (n + length parts + 1) messages h.1)
+    let k = n + length (canonical_parts m) in
+    ap (λ (x : List ℕ). texts_of (cut_parts (parts_of (lines_from n false (pieces x))))) (append_assoc (canonical m) (codes "NNNN\n") rest)
+    ∙ message_text m n (codes "NNNN\n" ++ rest) None (parts_of (lines_from (k + 1) false (pieces rest))) (mail_texts (k + 1) messages) h.0 (below_end k rest)
+    (read_from (k + 1) messages h.1)
+
+-- ---- the texts of messages, an empty line before each but the first
+
+abbrev later_texts : List MessageValue → List ℕ
+later_texts messages = flat_map (λ m. (10 ∷ []) ++ canonical m) messages
+
+-- What is below a message: an empty line, and the texts of later messages.
+later_read : (k : ℕ) (messages : List MessageValue) → AllByRecursion IsMail messages
+    → (parts : List (List MailLine)) × IsBelow k false (later_texts messages) (blank_line (Some k)) parts × (texts_of (cut_parts parts) ≡ mail_texts (k + 1) messages)
+later_read k [] h = ([], record { quiet = λ n d. record { message = refl; origin = refl; addresses = refl }; divided = refl }, refl)
+later_read k (m ∷ messages) h =
+    let end = k + 1 + length (canonical_parts m) in
+    let (parts, is, are) = later_read end messages h.1 in (
+      (marked (k + 1) false (canonical_parts m) ++ blank_line (Some end)) ∷ parts,
+      record {
+        quiet = λ n d. record { message = refl; origin = refl; addresses = refl };
+        divided = ap (onto_first (mail_line k false [])) (message_parts m (k + 1) (later_texts messages) (blank_line (Some end)) parts h.0 is);
+      },
+      own_text m (k + 1) (Some end) parts (mail_texts (end + 1) messages) h.0 are,
+    )
+
+pub joined_texts_read : JoinedTextsRead
+joined_texts_read [] h = refl
+joined_texts_read (m ∷ messages) h =
+    let end = 1 + length (canonical_parts m) in
+    let (parts, is, are) = later_read end messages h.1 in
+    message_text m 1 (later_texts messages) (Some end) parts (mail_texts (end + 1) messages) h.0 is are
 
 pub mailboxes_read : MailboxesRead
 mailboxes_read messages h = read_from 1 messages h

@@ -1,6 +1,6 @@
 -- The file in which messages are kept until they are sent, and what a mailbox reads in it.
 use Rattle.std.specs.Prelude.{◌≡◌, ℕ, ◌+◌, Bool, true, not, ◌||◌, List, [], ◌∷◌, ◌++◌, codes, length}
-use Rattle.std.specs.List.{AllByRecursion, flat_map, list_all}
+use Rattle.std.specs.List.{AllByRecursion, flat_map, join_by, list_all}
 use Rattle.ssim_text.specs.Canonical.{canonical, canonical_parts}
 use Rattle.ssim_text.specs.Message.{MessageValue}
 use Rattle.ssim_text.specs.declared.action.Sub.{Sub}
@@ -37,6 +37,17 @@ abbrev pub MailboxesRead : Type 0
 MailboxesRead =
     (messages : List MessageValue) → AllByRecursion IsMail messages
     → texts_in (mail_file messages) ≡ mail_texts 1 messages
+
+-- the canonical texts of messages, an empty line between two
+abbrev pub joined_texts : List MessageValue → List ℕ
+joined_texts = join_by canonical (10 ∷ [])
+
+-- a mailbox with the canonical texts of such messages, an empty line between two, has these texts and
+-- no others, at the same lines
+abbrev pub JoinedTextsRead : Type 0
+JoinedTextsRead =
+    (messages : List MessageValue) → AllByRecursion IsMail messages
+    → texts_in (joined_texts messages) ≡ mail_texts 1 messages
 
 -- messages that send sub-messages are such messages
 abbrev pub SentAreMail : Type 0

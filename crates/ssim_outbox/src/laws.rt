@@ -2,7 +2,7 @@
 //! way from one desk to another.
 
 ghost use Rattle.ssim_outbox.specs.Sayable.{MessagesReach};
-ghost use Rattle.ssim_outbox.specs.MailFile.{MailboxesRead, SentAreMail};
+ghost use Rattle.ssim_outbox.specs.MailFile.{JoinedTextsRead, MailboxesRead, SentAreMail};
 ghost use Rattle.ssim_outbox.specs.SameBase.{AllIsReached, NothingIsUnsaid};
 ghost use Rattle.ssim_outbox.specs.SendLaws.{FullDatesResolve, SerialsRise, SubsAreJoined};
 // The worked examples, which are computed: a false one is an error in this file.
@@ -33,9 +33,11 @@ pub fn full_dates_resolve()
 
 /// A mailbox with the bytes of the file of messages has their canonical texts and no others, in
 /// order, if a text can have each message and no line of free text is `NNNN`, `SSM` or `ASM` or
-/// begins with a dot. Messages that send sub-messages are so: they have no free text.
+/// begins with a dot. So has one with their canonical texts and an empty line between two. Messages
+/// that send sub-messages are so: they have no free text.
 pub fn mailboxes_read()
     ensures read { MailboxesRead }
+    ensures joined { JoinedTextsRead }
     ensures sent { SentAreMail }
 {}
 

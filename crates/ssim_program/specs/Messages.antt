@@ -1,12 +1,15 @@
 -- The messages of a desk that a command prints, and the flights by which they are chosen.
-use Rattle.std.specs.Prelude.{◌≡◌, ℕ, Bool, true, List, [], ◌∷◌, All, filter}
-use Rattle.std.specs.List.{join_by, list_any}
+use Rattle.std.specs.Prelude.{◌≡◌, ℕ, Bool, true, List, [], ◌∷◌, All, filter, map}
+use Rattle.std.specs.List.{AllByRecursion, join_by, list_any}
 use Rattle.ssim_values.specs.Designator.{SpellsDesignator}
 use Rattle.ssim_values.specs.declared.designator.Designator.{Designator}
 use Rattle.ssim_values.specs.declared.fault.Fault.TheVariants as value_fault
 use Rattle.ssim_text.specs.Canonical.{canonical}
 use Rattle.ssim_base.specs.Timetable.{same_flight}
+use Rattle.ssim_text.specs.Message.{MessageValue}
+use Rattle.ssim_mailbox.specs.Texts.{texts_in}
 use Rattle.ssim_held.specs.Entries.{Entry}
+use Rattle.ssim_outbox.specs.MailFile.{IsMail, mail_texts}
 use Rattle.ssim_command_line.specs.Line.{Text}
 use Rattle.ssim_program.specs.Answer.{Answer, Gives, OneOr, Require, ◌>>=◌}
 use Rattle.ssim_program.specs.Desks.{other_airline}
@@ -52,3 +55,14 @@ messages_on flights entries = filter (is_chosen flights) entries
 -- the canonical texts of the messages, an empty line between two
 abbrev pub message_texts : List Entry → List ℕ
 message_texts entries = join_by (λ e. canonical e.message) (10 ∷ []) entries
+
+-- the messages themselves
+abbrev pub values_of : List Entry → List MessageValue
+values_of entries = map (λ e. e.message) entries
+
+-- What is printed of messages is a mailbox with their canonical texts and no others, in order, if a
+-- text can have each message and no line of its free text begins or ends a text.
+abbrev pub TextsAreMail : Type 0
+TextsAreMail =
+    (entries : List Entry) → AllByRecursion IsMail (values_of entries)
+    → texts_in (message_texts entries) ≡ mail_texts 1 (values_of entries)

@@ -7,6 +7,7 @@ ghost use Rattle.ssim_command_line.specs.declared.command_line.ListForm.{ListFor
 ghost use Rattle.ssim_program.specs.Again.{TidiesOnce};
 ghost use Rattle.ssim_program.specs.Calls.{CommandsAreEvents};
 ghost use Rattle.ssim_program.specs.Conflicts.{MergeMeetsTwo, ReceiveMeetsTwo, TakeMeetsTwo};
+ghost use Rattle.ssim_program.specs.Messages.{TextsAreMail};
 ghost use Rattle.ssim_program.specs.Offices.{DiffPrintsTheSame, HoldsWhatWasBrought};
 ghost use Rattle.ssim_program.specs.Offices.{OfficesAgree, PrintsOfBoth, PrintsTheSame};
 ghost use Rattle.ssim_program.specs.FirstProblem.{RefusalIsFirstProblem};
@@ -23,6 +24,7 @@ use ssim_base::laws::{
     same_bytes_same_base, same_bytes_same_problems, same_bytes_same_rows, written_bases_are_read,
 };
 use ssim_desk::laws::{any_two_desks_agree, no_two_desks_have_one_file};
+use ssim_outbox::laws::mailboxes_read;
 use ssim_records::frames_are_one;
 use ssim_text::laws::{canonical_reads_back, one_message, one_reference};
 
@@ -140,6 +142,14 @@ pub fn conflicts_have_two_messages()
     ensures receive { ReceiveMeetsTwo }
 {
     one_message();
+}
+
+/// What `texts` prints is a mailbox with the texts of the messages and no others, in order, if no line
+/// of a free text is `NNNN`, `SSM` or `ASM` or begins with a dot.
+pub fn printed_texts_are_mail()
+    ensures { TextsAreMail }
+{
+    mailboxes_read();
 }
 
 /// A refusal with the number 90 has the line `refused 90 Memory`, whichever fault it wraps.
