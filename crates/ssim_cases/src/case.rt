@@ -7,6 +7,7 @@ use crate::desks::{Desks, place_of};
 use crate::extents::Call;
 use crate::fault::Fault;
 use crate::guard::Guard;
+use crate::history::print_history;
 use crate::memory_store::MemoryStore;
 use crate::pure::{print_decoded, print_encoded, print_read, print_resolved};
 use crate::transcript::{
@@ -220,6 +221,7 @@ impl<'t> Case<'t> {
     fn answer(&mut self, word: &str, rest: &str) -> Result<(), Fault> {
         match word {
             "run" => self.run(rest),
+            "history" => self.run_history(rest),
             "prefixes" => self.run_on_prefixes(rest),
             "opens" | "reads" | "saves" | "exports" | "puts" => self.try_extents(word, rest),
             "show" | "size" | "equal" => self.show_file(word, rest),
@@ -418,6 +420,24 @@ impl<'t> Case<'t> {
         answer.print(&mut self.transcript)?;
         self.printed.clear();
         Ok(self.printed.extend_from_slice(&answer.out)?)
+    }
+
+    /// Runs the program on the words of each line of a file, one command after another, and prints
+    /// what they wrote.
+    fn run_history(&mut self, name: &str) -> Result<(), Fault> {
+        let script = self.load(name)?;
+        let Ok(script) = str::from_utf8(&script) else {
+            return Err(Fault::Line);
+        };
+        let mut commands = Vec::new(self.alloc);
+        for line in script.lines() {
+            commands.push(words_of(self.alloc, line)?)?;
+        }
+        let mut words = Vec::new(self.alloc);
+        for command in &commands {
+            words.push(command.as_slice())?;
+        }
+        print_history(self.alloc, &words, &mut self.store, &mut self.transcript)
     }
 
     /// Runs the program on each prefix of a file, which then has the name `prefix`, and prints the

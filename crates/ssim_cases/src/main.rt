@@ -43,6 +43,8 @@
 //!   flight on one date.
 //! - `run WORD ..`: the program runs on its name and these words. A word with blanks is between two
 //!   `'`. The file `-` is its standard input.
+//! - `history FILE`: the program runs on its name and the words of each line of the file, one command
+//!   after another.
 //! - `show NAME`, `size NAME`: the bytes of a file, or their number; `equal NAME NAME`: whether two
 //!   files have the same bytes.
 //! - `prefixes NAME WORD ..`: runs the program for each prefix of a file, which then has the name
@@ -71,6 +73,7 @@ mod devices;
 mod extents;
 mod fault;
 mod guard;
+mod history;
 mod memory_file;
 mod memory_store;
 mod pure;

@@ -47,7 +47,7 @@ pub use content_kind::ContentKind;
 pub use print::printed_line::PrintedLine;
 pub use print::printer::Printer;
 pub use print::refusal_line::RefusalLine;
-pub use program::{run, run_on};
+pub use program::{run, run_each, run_on};
 pub use refusal::Refusal;
 pub use ssim_command_line::{LineFault, ListForm, Request, parse};
 pub use store::{Hold, HoldFault, KeepFault, Store, StoreFault};

@@ -13,6 +13,7 @@ use std::marker::Model;
 
 /// A printer over a writer of std. Contracts see it as what it has printed: its bytes are known if
 /// those of the writer are.
+#[derive(Drop)]
 pub struct Printer<'w, W: Write> {
     pub(crate) writer: &'w mut W,
     /// How many calls failed, or took no byte of some. It wraps at 2^64.
