@@ -2,13 +2,12 @@
 -- what a desk has after it takes the messages. So the dates that the plan leaves unsaid are those on
 -- which the desk still differs.
 use Rattle.std.proofs.Common.{◌≡◌, ◌≤◌, ◌<◌, ◌+◌, ℕ, zero, suc, List, [], ◌∷◌, ◌++◌, map, length}
-use Rattle.std.proofs.Common.{refl, sym, ap, subst, inl, inr, ◌⊎◌, ◌∙◌, arith}
+use Rattle.std.proofs.Common.{refl, sym, ap, subst, inl, inr, ◌∙◌, arith}
 use Rattle.std.specs.List.{AllByRecursion, filter, range_with_len}
 use Rattle.ssim_values.specs.Flight.{FlightNumber, IsFlight}
 use Rattle.ssim_periods.specs.Calendar.{day_count}
 use Rattle.ssim_periods.specs.Pieces.{pieces_of}
 use Rattle.ssim_records.specs.Carrier.{CarrierFields}
-use Rattle.ssim_records.specs.declared.record.Record.{Record}
 use Rattle.ssim_base.specs.Base.{airline_of}
 use Rattle.ssim_base.specs.Export.{flight_at, flight_count}
 use Rattle.ssim_base.specs.Resolve.{AreResolved}
@@ -16,21 +15,20 @@ use Rattle.ssim_base.specs.Stations.{Row}
 use Rattle.ssim_base.specs.Timetable.{Days, Legs, on_day}
 use Rattle.ssim_base.proofs.Calendars.{at-each_day}
 use Rattle.ssim_base.proofs.Places.{flight-is}
-use Rattle.ssim_base.specs.declared.sub_message.ResolvedSub.{ResolvedSub}
 use Rattle.ssim_text.specs.Message.{MessageValue}
 use Rattle.ssim_text.specs.declared.action.Sub.{Sub}
 use Rattle.ssim_text.specs.declared.reference.Reference.{Reference}
 use Rattle.ssim_held.specs.Entries.{DeskSeen}
 use Rattle.ssim_desk.specs.Desk.{days_of_desk, timetable_of}
 use Rattle.ssim_desk.specs.Meaning.{Timetable, after_one, after_subs}
-use Rattle.ssim_difference.specs.Differences.{Compared, compared, difference, difference_pieces}
-use Rattle.ssim_difference.specs.Differences.{differences, differing_days, differs, no_difference, same_difference}
+use Rattle.ssim_difference.specs.Differences.{Compared, compared, difference}
+use Rattle.ssim_difference.specs.Differences.{differences, differs, no_difference, same_difference}
 use Rattle.ssim_difference.specs.declared.difference.Difference.{Difference}
 use Rattle.ssim_outbox.specs.Acting.{ActOn, ActOnTheirDates}
 use Rattle.ssim_outbox.specs.Published.{IsPublished, IsPublishedOn, Leave, NamesDifferences, legs_after}
 use Rattle.ssim_outbox.specs.Reach.{IsSaid}
 use Rattle.ssim_outbox.specs.declared.planned_sub.PlannedSub.{PlannedSub}
-use Rattle.ssim_outbox.specs.Delivery.{AreDelivered, CanDeliver, entries_of}
+use Rattle.ssim_outbox.specs.Delivery.{AreDelivered, entries_of}
 use Rattle.ssim_outbox.specs.MailFile.{mail_file}
 use Rattle.ssim_outbox.specs.clauses.Fault.{not_sent}
 use Rattle.ssim_outbox.specs.clauses.Messages.{RefusesSubs}

@@ -4,8 +4,6 @@ use Rattle.std.specs.List.{AllByRecursion}
 use Rattle.ssim_values.specs.Flight.{FlightNumber, IsFlight}
 use Rattle.ssim_periods.specs.Calendar.{day_count}
 use Rattle.ssim_records.specs.Carrier.{CarrierFields}
-use Rattle.ssim_base.specs.Export.{Frame}
-use Rattle.ssim_base.specs.ReadBack.{HasFrame}
 use Rattle.ssim_base.specs.Resolve.{HasNone, Resolves}
 use Rattle.ssim_base.specs.Timetable.{Days, on_day}
 use Rattle.ssim_base.specs.declared.resolution.ResolveFault.{ResolveFault}

@@ -1,5 +1,5 @@
 -- The finding says whether the first action acts on each date, and the others act on what it leaves.
-use Rattle.std.proofs.Common.{◌≡◌, ◌∙◌, ◌≤◌, List, length, sym, ap, subst}
+use Rattle.std.proofs.Common.{◌∙◌, ◌≤◌, List, length, sym, ap, subst}
 use Rattle.std.specs.Prelude.{IsTrue}
 use Rattle.ssim_values.specs.Flight.{IsFlight, is_suffix}
 use Rattle.ssim_text.specs.declared.action.Action.{Action}

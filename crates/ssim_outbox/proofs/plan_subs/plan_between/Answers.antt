@@ -1,9 +1,7 @@
 -- The plan is one between the timetables of the desks, since the schedules have these.
-use Rattle.std.proofs.Common.{◌∙◌, List, ap, subst}
+use Rattle.std.proofs.Common.{◌∙◌, ap}
 use Rattle.ssim_base.specs.BaseSeen.{BaseSeen}
-use Rattle.ssim_base.specs.Stations.{Row}
 use Rattle.ssim_schedule.specs.clauses.Schedule.{days_in}
-use Rattle.ssim_desk.specs.Desk.{days_of_desk}
 use Rattle.ssim_outbox.proofs.Joined.{plan_of_days}
 use Rattle.ssim_outbox.proofs.plan_subs.plan_between.Goals as goal
 

@@ -1,5 +1,5 @@
 -- The lines of the messages, then those of what is unsaid, then the last one.
-use Rattle.std.proofs.Common.{◌≡◌, ◌∙◌, ◌++◌, List, ℕ, ap, append_assoc, length}
+use Rattle.std.proofs.Common.{◌∙◌, ◌++◌, List, ℕ, ap, append_assoc, length}
 use Rattle.ssim_difference.specs.Differences.{date_count}
 use Rattle.ssim_outbox.specs.Publication.{last_line, text_lines}
 use Rattle.ssim_outbox.proofs.publication_lines.publication_lines.Goals as goal
