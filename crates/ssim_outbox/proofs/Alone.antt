@@ -48,7 +48,8 @@ use Rattle.ssim_outbox.specs.Reach.{IsSaid}
 use Rattle.ssim_outbox.specs.internal.Texts.{heading_parts}
 use Rattle.ssim_outbox.proofs.FullPeriods.{full_again, full_period, full_short}
 use Rattle.ssim_outbox.proofs.OtherGroup.{date_five}
-use Rattle.ssim_outbox.proofs.SaidActions.{body_short, known}
+use Rattle.ssim_outbox.proofs.ActionParts.{body_again, body_short}
+use Rattle.ssim_outbox.proofs.Said.{IsKnown, known}
 use Rattle.ssim_outbox.proofs.TextLines.{in_two}
 use Rattle.ssim_outbox.proofs.Together.{IsGood, heading_again, text_of}
 
@@ -205,24 +206,23 @@ pub alone_under : (h : MessageValue) (d : Designator) (line : List ℕ) (first l
     (days : List Bool) (action : Action) → h.kind ≡ Ssm
     → AllByRecursion ReadsAgain (heading_parts h h.reference.group)
     → length (creator_text h.reference.creator) ≤ 36 → SpellsDesignator d line
-    → first < day_limit → last < day_limit → IsMask days → IsSaid action
+    → first < day_limit → last < day_limit → IsMask days → IsKnown action
     → IsAlone h (dated d (record { first = first; last = last; days = days }) action)
-alone_under h d line first last days action ssm heading creator flight low high mask said =
+alone_under h d line first last days action ssm heading creator flight low high mask k =
     let sub = dated d (record { first = first; last = last; days = days }) action in
     let g = h.reference.group in
-    let k = known action said in
     let own = written (subs_parts (sub ∷ [])) in
     let good : IsGood h.kind sub = record {
       again = (
         action_again (identifier_of action),
-        (flight_again d line flight, (full_again first last days low high mask, k.again)),
+        (flight_again d line flight, (full_again first last days low high mask, body_again action k.can)),
       );
       allowed = record { dates = period_allowed h.kind ssm first last days; body = k.allowed };
     } in
     let sub_short = sub_lines_short (identifier_text (identifier_of action)) (designator_text d)
     (period_text (full_period first last days)) (written (body_parts action))
     (identifier_short (identifier_of action)) (designator_short d line flight)
-    (full_short first last days low high mask) (body_short action k) in
+    (full_short first last days low high mask) (body_short action k.allowed k.can) in
     let own_is : length own ≡ length (written (sub_parts sub)) =
     ap (λ (p : List Part). length (written p)) (append-nil (sub_parts sub)) in
     text_of h g sub [] heading (good, tt) (omega arith)
@@ -243,4 +243,4 @@ alone h text d line first last days action ssm spelled flight low high mask said
     let bounded = spelled_reference_bounded h text spelled in
     alone_under h d line first last days action ssm
     (heading_again h text h.reference.group bounded.group spelled)
-    (creator_short h.reference.creator bounded.creator) flight low high mask said
+    (creator_short h.reference.creator bounded.creator) flight low high mask (known action said)

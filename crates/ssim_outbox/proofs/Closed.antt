@@ -4,7 +4,7 @@ use Rattle.std.proofs.Common.{◌≡◌, ◌⊎◌, ◌∙◌, ℕ, List, [], �
 use Rattle.std.proofs.Common.{Option, Some, None, option_map, inl, inr}
 use Rattle.std.specs.List.{AllByRecursion}
 use Rattle.ssim_text.specs.Bytes.{after_word, word}
-use Rattle.ssim_text.specs.Grammar.{IsNewLegs}
+use Rattle.ssim_text.specs.Grammar.{IsEquipment, IsLegLine, IsNewLegs}
 use Rattle.ssim_text.specs.Values.{EquipmentValue}
 use Rattle.ssim_text.specs.declared.action.Action.{Action}
 use Rattle.ssim_text.specs.declared.action.Action.TheVariants.{New, Cnl, Rpl, Eqt, Tim}
@@ -18,8 +18,8 @@ use Rattle.ssim_schedule.specs.Effect.{cancel, create, equipped, new_legs, repla
 use Rattle.ssim_schedule.specs.Effect.{variation_on, with_line, with_lines}
 use Rattle.ssim_text.proofs.ReadsBack.{all_both}
 use Rattle.ssim_outbox.specs.Reach.{IsSaid, Reach, after_all}
-use Rattle.ssim_outbox.specs.Sayable.{AreNewLegs, ArePartsOf, HaveColumns, IsEquipment, IsLegLine}
-use Rattle.ssim_outbox.specs.Sayable.{IsSayable, IsWhole, equipped_by}
+use Rattle.ssim_outbox.specs.Sayable.{AreNewLegs, ArePartsOf, HaveColumns, IsSayable, IsWhole}
+use Rattle.ssim_outbox.specs.Sayable.{equipped_by}
 use Rattle.ssim_outbox.proofs.NewLegs.{HasStations, all_replaced, allowed_replaced, equipped_from}
 use Rattle.ssim_outbox.proofs.NewLegs.{equipped_new, replaced_from, replaced_new}
 use Rattle.ssim_outbox.proofs.OldLegs.{equip_is, equipped_lines, equipped_long, equipped_twice}

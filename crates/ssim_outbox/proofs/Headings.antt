@@ -5,7 +5,7 @@ use Rattle.std.proofs.Common.{Option, Some, None, Result, Ok, Err, IfOk, IfErr, 
 use Rattle.std.proofs.Common.{length-append, leb-true, lit<, ◌&&◌, Bool, if◌then◌else◌, bytes_eq, drop_of_length-le, take_all}
 use Rattle.std.specs.Prelude.{◌==◌, nat_le}
 use Rattle.std.proofs.lemmas.Bool.{and_parts}
-use Rattle.std.proofs.lemmas.List.{length-take, length-drop}
+use Rattle.std.proofs.lemmas.List.{length-drop}
 use Rattle.std.specs.List.{AllByRecursion, AllZip, list_all}
 use Rattle.ssim_values.specs.Calendar.{day_number, leap_years, months_length}
 use Rattle.ssim_values.specs.Day.{day_of}
@@ -21,7 +21,7 @@ use Rattle.ssim_text.specs.Canonical.{canonical, creator_text, originator_parts,
 use Rattle.ssim_text.specs.Grammar.{ActionPart, FlightPart, FreePart, IsModePart, IsOriginatorPart, KindPart}
 use Rattle.ssim_text.specs.Grammar.{ModePart, OriginatorPart, Part, PeriodPart, ReferencePart, Spells, SpellsText}
 use Rattle.ssim_text.specs.Grammar.{free_parts, subs_parts}
-use Rattle.ssim_text.specs.Left.{first_unprintable, left_from, lines_left, pieces, texts}
+use Rattle.ssim_text.specs.Left.{first_unprintable, lines_left, texts}
 use Rattle.ssim_text.specs.Lines.{address_of, creator_of, is_blank_or_none, kind_text, mode_text, numbers_of, originator_of, period_of, reference_of}
 use Rattle.ssim_text.specs.Message.{MessageValue}
 use Rattle.ssim_text.specs.Spelling.{SpellsMessage}
@@ -42,8 +42,7 @@ use Rattle.ssim_text.proofs.Place.{one_message}
 use Rattle.ssim_text.proofs.Runs.{none_some, some_same}
 use Rattle.ssim_text.proofs.Words.{only_if}
 use Rattle.ssim_text.proofs.ReadsBack.{action_again, all_both, kind_again, mode_again}
-use Rattle.ssim_outbox.specs.Sayable.{IsTextLine}
-use Rattle.ssim_outbox.proofs.ActionTexts.{said_if_allowed}
+use Rattle.ssim_text.specs.Left.{IsTextLine}
 use Rattle.ssim_outbox.specs.internal.Texts.{heading_parts}
 use Rattle.ssim_outbox.proofs.Alone.{alone_under, designator_short}
 use Rattle.ssim_outbox.specs.Heading.{IsOriginatedWord, IsPlainWord, IsReferenceLine, NamesHeading}
@@ -77,9 +76,6 @@ are_printable : (lines : List (List ℕ)) → AllByRecursion IsLine lines → fi
 are_printable lines h =
     ap (λ (x : List ℕ). first_unprintable (lines_left x)) (sym (free_text lines))
     ∙ written_printable 1 (map FreePart lines) (free_own lines h)
-
-a_line : (line : List ℕ) → IsTextLine line → IsLine line
-a_line line h = record { some = h.some; printable = h.printable; ended = h.ended }
 
 -- ---- a reference line is short
 
@@ -189,7 +185,7 @@ module _ (mode : TimeMode) (airline : List ℕ)
   rest_lines : (line : List ℕ) → IsTextLine line → AllByRecursion IsLine (cancelling_lines mode airline line)
   rest_lines line h = (
     (kind_again Ssm).line,
-    ((mode_again mode).line, (a_line line h, ((action_again identifier.Cnl).line, ((flight_again d (designator_text d) code).line, (week_line, tt))))),
+    ((mode_again mode).line, (h, ((action_again identifier.Cnl).line, ((flight_again d (designator_text d) code).line, (week_line, tt))))),
   )
 
   abbrev rest_parts : GivenReference → List Part
@@ -235,10 +231,10 @@ module _ (mode : TimeMode) (airline : List ℕ)
         let three = KindPart Ssm ∷ ModePart mode ∷ ReferencePart r ∷ [] in
         let heading : AllByRecursion ReadsAgain (heading_parts (message r) r.group) =
         all_both ReadsAgain (originator_parts originator) three o.again
-        (kind_again Ssm, (mode_again mode, (reference_again r line h (a_line line l), tt))) in
+        (kind_again Ssm, (mode_again mode, (reference_again r line h l, tt))) in
         alone_under (message r) d (designator_text d) 9313 9319
         (false ∷ true ∷ false ∷ false ∷ false ∷ false ∷ false ∷ []) Cnl refl heading (line_few line r h).1 code
-        (lit< tt) (lit< tt) (record { seven = refl; some = lit< tt }) (said_if_allowed Cnl tt tt)
+        (lit< tt) (lit< tt) (record { seven = refl; some = lit< tt }) (record { allowed = tt; can = tt })
 
     -- the text spells it
     pub spelled : (line : List ℕ) (r : GivenReference) → IsTextLine line → reference_of line ≡ Some r

@@ -20,7 +20,7 @@ use Rattle.ssim_schedule.specs.Effect.{replace, retime, retimed, variation_on, w
 use Rattle.ssim_text.proofs.ReadsBack.{all_both}
 use Rattle.ssim_outbox.specs.Reach.{IsSaid, Reach, after_all}
 use Rattle.ssim_outbox.specs.Sayable.{HaveColumns}
-use Rattle.ssim_outbox.proofs.ActionTexts.{said_if_allowed}
+use Rattle.ssim_outbox.proofs.SaidActions.{said_if_allowed}
 use Rattle.ssim_outbox.proofs.Closed.{cancel_is}
 use Rattle.ssim_outbox.proofs.OldLegs.{fits_equipped}
 use Rattle.ssim_outbox.proofs.Retimed.{have_kept}

@@ -4,6 +4,7 @@ use Rattle.std.proofs.Common.{◌≡◌, ◌||◌, ◌∙◌, ℕ, Bool, true, f
 use Rattle.std.proofs.Common.{map, refl, sym, ap, subst, inl, inr, Option, Some, None, IfSome}
 use Rattle.std.proofs.Common.{arith}
 use Rattle.std.specs.List.{AllByRecursion}
+use Rattle.ssim_text.specs.Grammar.{IsEquipment, IsLegLine}
 use Rattle.ssim_text.specs.Values.{EquipmentValue}
 use Rattle.ssim_text.specs.declared.action.Action.{Action}
 use Rattle.ssim_text.specs.declared.action.Action.TheVariants.{New, Cnl, Eqt, Tim}
@@ -13,9 +14,8 @@ use Rattle.ssim_base.specs.Timetable.{Legs}
 use Rattle.ssim_schedule.specs.Effect.{create, equipped, fits, has_leg, new_legs, retime, retimed}
 use Rattle.ssim_schedule.specs.Effect.{variation_on, with_line, with_lines}
 use Rattle.ssim_outbox.specs.Reach.{IsSaid, Reach, after_all}
-use Rattle.ssim_outbox.specs.Sayable.{ArePartsOf, IsEquipment, IsLegLine, IsSayable, IsWhole}
-use Rattle.ssim_outbox.specs.Sayable.{MessagesReach, equipped_by}
-use Rattle.ssim_outbox.proofs.ActionTexts.{said_if_allowed}
+use Rattle.ssim_outbox.specs.Sayable.{ArePartsOf, IsSayable, IsWhole, MessagesReach, equipped_by}
+use Rattle.ssim_outbox.proofs.SaidActions.{said_if_allowed}
 use Rattle.ssim_outbox.proofs.Closed.{cancel_is, reached_is_sayable}
 use Rattle.ssim_outbox.proofs.OldLegs.{equip_is}
 

@@ -3,25 +3,25 @@
 use Rattle.std.proofs.Common.{◌≡◌, ◌⊎◌, ◌||◌, ◌&&◌, ◌∙◌, ℕ, Bool, true, false, if◌then◌else◌}
 use Rattle.std.proofs.Common.{List, [], ◌∷◌, ◌++◌, map, length, bytes_eq, refl, sym, ap, subst}
 use Rattle.std.proofs.Common.{inl, inr, append_assoc, Option, Some, None}
-use Rattle.std.specs.List.{AllByRecursion}
+use Rattle.std.specs.List.{AllByRecursion, AllZip}
 use Rattle.std.proofs.lemmas.Bool.{and_parts, and_from}
 use Rattle.std.proofs.lemmas.Slice.Eq.{bytes_eq-Decides}
 use Rattle.ssim_columns.specs.Leg.{leg_columns, spread}
 use Rattle.ssim_columns.proofs.lemmas.Rows.{same_columns}
 use Rattle.std.proofs.Common.{lit<, lit≤, ◌<◌, ◌≤◌}
-use Rattle.ssim_text.specs.Canonical.{leg_text}
+use Rattle.ssim_text.specs.Grammar.{IsLegLine}
 use Rattle.ssim_text.specs.Values.{EquipmentValue}
 use Rattle.ssim_text.specs.declared.leg.LegLine.{LegLine}
 use Rattle.ssim_base.specs.Timetable.{LegValue, Legs}
 use Rattle.ssim_schedule.specs.Effect.{equipped, fits, has_leg, have_legs, retimed, with_line}
 use Rattle.ssim_schedule.specs.Effect.{with_lines}
 use Rattle.ssim_schedule.specs.MessageColumns.{equipment_of, times_of, with_times}
-use Rattle.ssim_outbox.specs.Sayable.{HaveColumns, IsLegLine, equipped_by}
-use Rattle.ssim_outbox.specs.internal.ColumnLines.{leg_line, retimed_columns, same_times}
+use Rattle.ssim_outbox.specs.Sayable.{HaveColumns, equipped_by}
+use Rattle.ssim_outbox.specs.internal.ColumnLines.{HasLine, retimed_columns, same_times}
 use Rattle.ssim_outbox.proofs.Columns.{arrival_timed, departure_timed, equipment_changed}
 use Rattle.ssim_outbox.proofs.Columns.{times_twice}
 use Rattle.ssim_outbox.proofs.OldLegs.{line_long}
-use Rattle.ssim_outbox.proofs.ColumnTexts.{HasTimes, leg_line_is, retimed_has, times_kept}
+use Rattle.ssim_outbox.proofs.ColumnLines.{HasTimes, retimed_has, times_kept}
 
 -- the leg with other columns
 abbrev of_columns : LegValue → List ℕ → LegValue
@@ -210,8 +210,7 @@ Fit (line ∷ lines) legs = (has_leg legs line ≡ true) × Fit lines (with_line
 -- leg lines with these columns, which make the new legs after some that stay
 pub record Chosen (front legs news : Legs) (columns : List (List ℕ)) : Type 0 where
   pub lines : List LegLine
-  pub are : AllByRecursion IsLegLine lines
-  pub texts : map leg_line columns ≡ map leg_text lines
+  pub have : AllZip HasLine lines columns
   pub fit : Fit lines (front ++ legs)
   pub made : with_lines lines (front ++ legs) ≡ front ++ news
 
@@ -260,7 +259,7 @@ kept_leg before old leg new len times same (inl kept) = kept
 kept_leg before old leg new len times same (inr r) =
     let d = leg.columns in
     let x = with_times r.line d in
-    let has = retimed_has r.line leg len r.fit in
+    let has = retimed_has r.line leg r.is_line len r.fit in
     let are = times_are old.columns new.columns same in
     let there : new.columns ≡ x = ap (λ (l : LegValue). l.columns) r.made in
     let to : (first last : ℕ) → leg_columns first last old.columns ≡ leg_columns first last d
@@ -295,7 +294,7 @@ pub choose : (before front olds legs news : Legs) → HaveColumns legs → HaveT
     → ((line : LegLine) → has_leg front line ≡ has_leg before line) → Changed before legs news
     → Chosen front legs news (retimed_columns olds news)
 choose before front [] [] [] long times same c =
-    record { lines = []; are = tt; texts = refl; fit = tt; made = refl }
+    record { lines = []; have = tt; fit = tt; made = refl }
 choose before front [] [] (new ∷ news) long times same c = absurd c
 choose before front [] (leg ∷ legs) news long times same c = absurd times
 choose before front (old ∷ olds) [] news long times same c = absurd times
@@ -319,8 +318,7 @@ choose before front (old ∷ olds) (leg ∷ legs) (new ∷ news) long times same
         joined legs ∙ ap (λ (l : LegValue). front ++ l ∷ legs) kept in
         record {
           lines = later.lines;
-          are = later.are;
-          texts = later.texts;
+          have = later.have;
           fit = subst (Fit later.lines) whole later.fit;
           made = ap (with_lines later.lines) (sym whole) ∙ later.made ∙ joined news;
         }
@@ -329,14 +327,12 @@ choose before front (old ∷ olds) (leg ∷ legs) (new ∷ news) long times same
         let whole : with_line r.line (front ++ leg ∷ legs) ≡ (front ++ new ∷ []) ++ legs =
         line_after front legs leg r.line (same r.line ∙ r.first) r.fit
         ∙ ap (λ (l : LegValue). front ++ l ∷ legs) (sym r.made) ∙ sym (joined legs) in
-        let text : leg_line new.columns ≡ leg_text r.line =
-        ap (λ (l : LegValue). leg_line l.columns) r.made
-        ∙ leg_line_is r.line (with_times r.line leg.columns) r.is_line
-        (retimed_has r.line leg long.0 r.fit) in
+        let has : HasLine r.line new.columns =
+        subst (λ (l : LegValue). HasLine r.line l.columns) (sym r.made)
+        (retimed_has r.line leg r.is_line long.0 r.fit) in
         record {
           lines = r.line ∷ later.lines;
-          are = (r.is_line, later.are);
-          texts = λ i. text i ∷ later.texts i;
+          have = (has, later.have);
           fit = (
             has_in front legs leg r.line r.fit,
             subst (Fit later.lines) (sym whole) later.fit,

@@ -3,7 +3,8 @@ use Rattle.std.proofs.Common.{◌≡◌, ◌<◌, ℕ, List, [], ◌∷◌, ◌+
 use Rattle.std.specs.Prelude.{slice_index_or}
 use Rattle.std.specs.List.{AllByRecursion, AllZip}
 use Rattle.std.proofs.lemmas.List.Elements.{All-from_recursion}
-use Rattle.ssim_text.specs.Grammar.{IsBody, IsNewLegs, IsSub, LegPart, Part, SegmentPart, Spells}
+use Rattle.ssim_text.specs.Grammar.{IsBody, IsEquipment, IsLegLine, IsNewLegs, IsSpelled, IsSub}
+use Rattle.ssim_text.specs.Grammar.{LegPart, Part, SegmentPart, Spells}
 use Rattle.ssim_text.specs.Grammar.{body_parts, flight_parts, free_parts, later_parts, sub_parts}
 use Rattle.ssim_text.specs.Grammar.{new_parts, subs_parts}
 use Rattle.ssim_text.specs.Left.{lines_left, pieces, texts}
@@ -14,7 +15,7 @@ use Rattle.ssim_text.specs.declared.action.Sub.{Sub}
 use Rattle.ssim_text.proofs.LinesKept.{IsLine, left_lines}
 use Rattle.ssim_text.proofs.ReadsBack.{all_left, all_right}
 use Rattle.ssim_outbox.specs.Reach.{IsSaid}
-use Rattle.ssim_outbox.specs.Sayable.{AreNewLegs, IsEquipment, IsLegLine, IsSpelled, IsTextLine}
+use Rattle.ssim_outbox.specs.Sayable.{AreNewLegs}
 
 -- an action that a sub-message can have
 abbrev pub CanAct : Action → Type 0
@@ -26,16 +27,13 @@ CanAct (Tim lines) = AllByRecursion IsLegLine lines
 
 -- ---- each part of a text
 
-text_line : (line : List ℕ) → IsLine line → IsTextLine line
-text_line line h = record { some = h.some; printable = h.printable; ended = h.ended }
-
 parts_spelled : (parts : List Part) (lines : List (List ℕ)) → AllZip Spells parts lines
     → AllByRecursion IsLine lines → AllByRecursion IsSpelled parts
 parts_spelled [] [] h l = tt
 parts_spelled [] (line ∷ lines) h l = absurd h
 parts_spelled (part ∷ parts) [] h l = absurd h
 parts_spelled (part ∷ parts) (line ∷ lines) h l = (
-  record { line = line; is_line = text_line line l.0; spells = h.0 },
+  record { line = line; is_line = l.0; spells = h.0 },
   parts_spelled parts lines h.1 l.1,
 )
 
@@ -48,7 +46,7 @@ all_of f (x ∷ xs) h = (h.0, all_of f xs h.1)
 
 -- what holds of all parts of sub-messages holds of the parts of each after its flight and its dates
 module _ (P : Part → Type 0) where
-  abbrev pub HasBody : Sub → Type 0
+  abbrev HasBody : Sub → Type 0
   HasBody sub = AllByRecursion P (body_parts sub.action)
 
   body_of : (sub : Sub) → AllByRecursion P (sub_parts sub) → HasBody sub
@@ -62,7 +60,7 @@ module _ (P : Part → Type 0) where
     later_bodies subs (all_right P (sub_parts sub) (later_parts subs) h.1),
   )
 
-  pub bodies : (subs : List Sub) → AllByRecursion P (subs_parts subs) → AllByRecursion HasBody subs
+  bodies : (subs : List Sub) → AllByRecursion P (subs_parts subs) → AllByRecursion HasBody subs
   bodies [] h = tt
   bodies (sub ∷ subs) h = (
     body_of sub (all_left P (sub_parts sub) (later_parts subs) h),
@@ -83,7 +81,7 @@ can_make new allowed h =
       segments = all_of SegmentPart new.segments (all_right IsSpelled legs segments h.1);
     }
 
-pub can_act : (action : Action) → IsBody action → AllByRecursion IsSpelled (body_parts action)
+can_act : (action : Action) → IsBody action → AllByRecursion IsSpelled (body_parts action)
     → CanAct action
 can_act (New new) body h = can_make new body h
 can_act Cnl body h = tt
@@ -92,12 +90,17 @@ can_act (Eqt equipment) body h = h.0
 can_act (Tim lines) body h = all_of LegPart lines h
 
 -- an element of which something holds
-pub element : {X : Type 0} (P : X → Type 0) (xs : List X) (x : X) (k : ℕ) → k < length xs
+element : {X : Type 0} (P : X → Type 0) (xs : List X) (x : X) (k : ℕ) → k < length xs
     → slice_index_or xs k x ≡ x → AllByRecursion P xs → P x
 element P xs x k within is h = subst P is (All-from_recursion P xs h k x within)
 
-pub said_can_act : (action : Action) → IsSaid action → CanAct action
-said_can_act action said =
+-- the grammar allows the action, and lines spell its parts
+pub record IsKnown (action : Action) : Type 0 where
+  pub allowed : IsBody action
+  pub can : CanAct action
+
+pub known : (action : Action) → IsSaid action → IsKnown action
+known action said =
     let m = said.message in
     let text = said.spelled.spelled in
     let lines = left_lines 1 (pieces said.text) said.spelled.printable in
@@ -110,4 +113,8 @@ said_can_act action said =
     let c = said.contained in
     let body = element (HasBody IsSpelled) m.subs said.sub c.0 c.1 c.2 subs in
     let allowed = element (IsSub m.kind) m.subs said.sub c.0 c.1 c.2 text.shape.subs in
-    subst CanAct said.action_is (can_act said.sub.action allowed.body body)
+    subst IsKnown said.action_is
+    (record { allowed = allowed.body; can = can_act said.sub.action allowed.body body })
+
+pub said_can_act : (action : Action) → IsSaid action → CanAct action
+said_can_act action said = (known action said).can

@@ -6,7 +6,7 @@ use Rattle.ssim_text.specs.Message.{MessageValue}
 use Rattle.ssim_text.specs.Values.{no_originator}
 use Rattle.ssim_text.specs.declared.kind.Kind.TheVariants.{Ssm}
 use Rattle.ssim_text.specs.declared.reference.GivenReference.{GivenReference}
-use Rattle.ssim_outbox.specs.Sayable.{IsTextLine}
+use Rattle.ssim_text.specs.Left.{IsTextLine}
 
 -- a line that a text can have is the reference line of this reference: 01JUN00001E001
 pub record IsReferenceLine (line : List ℕ) (reference : GivenReference) : Type 0 where

@@ -1,12 +1,9 @@
 -- The three kinds of itinerary that messages can make of an itinerary on one date: none, a whole
 -- new one, and the old one with other equipment and other times. Messages make no others, and `say`
 -- returns actions for each of these.
-use Rattle.std.specs.Prelude.{◌≡◌, ◌⊎◌, ◌↔◌, ℕ, ◌≤◌, true, List, [], map, length, Option, Some}
-use Rattle.std.specs.Prelude.{None, IfSome}
-use Rattle.std.specs.List.{AllByRecursion, list_all}
-use Rattle.ssim_text.specs.Bytes.{is_printable}
-use Rattle.ssim_text.specs.Left.{without_end}
-use Rattle.ssim_text.specs.Grammar.{IsNewLegs, Part, EquipmentPart, LegPart, SegmentPart, Spells}
+use Rattle.std.specs.Prelude.{◌≡◌, ◌⊎◌, ◌↔◌, ℕ, List, [], map, length, Option, Some, None, IfSome}
+use Rattle.std.specs.List.{AllByRecursion}
+use Rattle.ssim_text.specs.Grammar.{IsEquipment, IsLegLine, IsNewLegs, IsSegmentLine}
 use Rattle.ssim_text.specs.Values.{EquipmentValue}
 use Rattle.ssim_text.specs.declared.action.NewLegs.{NewLegs}
 use Rattle.ssim_text.specs.declared.leg.LegLine.{LegLine}
@@ -15,32 +12,12 @@ use Rattle.ssim_base.specs.Timetable.{Legs}
 use Rattle.ssim_schedule.specs.Effect.{equipped, new_legs, variation_on, with_lines}
 use Rattle.ssim_outbox.specs.Reach.{Reach}
 
--- a line that a text can have: one printable byte or more, the last of them no blank
-pub record IsTextLine (line : List ℕ) : Type 0 where
-  pub some : 1 ≤ length line
-  pub printable : list_all is_printable line ≡ true
-  pub ended : without_end line ≡ line
-
--- a line that a text can have spells the part
-pub record IsSpelled (part : Part) : Type 0 where
-  pub line : List ℕ
-  pub is_line : IsTextLine line
-  pub spells : Spells part line
-
--- a line of a text can spell the equipment
-abbrev pub IsEquipment : EquipmentValue → Type 0
-IsEquipment equipment = IsSpelled (EquipmentPart equipment)
-
--- a line of a text can spell the leg line
-abbrev pub IsLegLine : LegLine → Type 0
-IsLegLine line = IsSpelled (LegPart line)
-
 -- new legs that NEW and RPL can have: the grammar allows them, and lines of a text can spell them
 pub record AreNewLegs (new : NewLegs) : Type 0 where
   pub allowed : IsNewLegs new
   pub equipment : IsEquipment new.equipment
   pub legs : AllByRecursion IsLegLine new.legs
-  pub segments : AllByRecursion (λ segment. IsSpelled (SegmentPart segment)) new.segments
+  pub segments : AllByRecursion IsSegmentLine new.segments
 
 -- a whole new itinerary: the legs that NEW and RPL make, with the UTC variations of the day
 pub record IsWhole (rows : List Row) (day : ℕ) (legs : Legs) : Type 0 where

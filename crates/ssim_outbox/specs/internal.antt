@@ -1,5 +1,4 @@
 -- Definitions that only private functions cite, so nobody has to believe them.
-pub mod ActionTexts
 pub mod ColumnLines
 pub mod Candidates
 pub mod Drafts

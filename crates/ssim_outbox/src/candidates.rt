@@ -1,29 +1,25 @@
-//! Actions that may make a new itinerary of an old one, by the texts that the columns of its legs
-//! make. Each is an action of a message that a text spells; whether they make the itinerary is not
-//! tested here.
+//! Actions that may make a new itinerary of an old one, by the lines that the columns of its legs
+//! have. Whether they make the itinerary is not tested here.
 
-ghost use Rattle.std.specs.Prelude.{◌≡◌, ◌++◌, ◌∷◌, ℕ, [], List, Some, IfOk, IfSome, OnOk, codes};
-ghost use Rattle.std.specs.Prelude.{map, take, drop};
-ghost use Rattle.std.specs.List.{AllByRecursion};
-ghost use Rattle.ssim_text.specs.Canonical.{leg_text};
-ghost use Rattle.ssim_text.specs.Grammar.{IsBody};
-ghost use Rattle.ssim_text.specs.Spelling.{SpellsMessage};
-ghost use Rattle.ssim_text.specs.declared.action.Action.{Action};
-ghost use Rattle.ssim_text.specs.declared.action.Action.TheVariants.{Cnl, Tim};
+ghost use Rattle.std.specs.Prelude.{◌≡◌, ◌≤◌, ◌++◌, ◌∷◌, ℕ, [], List, IfOk, OnOk, length, take, drop};
+ghost use Rattle.std.specs.List.{AllByRecursion, AllZip};
+ghost use Rattle.ssim_text.specs.Grammar.{IsEquipment, IsLegLine};
+ghost use Rattle.ssim_text.specs.Values.{EquipmentValue};
+ghost use Rattle.ssim_text.specs.declared.action.Action.TheVariants.{Cnl, Eqt, New, Rpl, Tim};
+ghost use Rattle.ssim_text.specs.declared.action.NewLegs.{NewLegs};
 ghost use Rattle.ssim_text.specs.declared.leg.LegLine.{LegLine};
 ghost use Rattle.ssim_base.specs.Stations.{Row};
 ghost use Rattle.ssim_outbox.specs.Reach.{IsSaid, after_all};
-ghost use Rattle.ssim_outbox.specs.Sayable.{HaveColumns, IsLegLine};
-ghost use Rattle.ssim_outbox.specs.internal.ActionTexts.{heading, message_of};
+ghost use Rattle.ssim_outbox.specs.Sayable.{AreNewLegs, HaveColumns};
 ghost use Rattle.ssim_outbox.specs.internal.Candidates.{AddsTimes, Makes};
-ghost use Rattle.ssim_outbox.specs.internal.ColumnLines.{first_equipment, leg_line, whole_lines};
+ghost use Rattle.ssim_outbox.specs.internal.ColumnLines.{FirstHas, HasLine, HaveLines};
 ghost use Rattle.ssim_outbox.specs.internal.ColumnLines.{retimed_columns};
 
-use crate::action_text::{begun, equipment_text, legs_text, times_text};
-use crate::retimed_legs::retimed_columns;
-use ssim_records::LegColumns;
+use crate::column_lines::equipment_of;
+use crate::new_lines::new_legs;
+use crate::retimed_legs::retimed_lines;
 use ssim_schedule::PlacedLeg;
-use ssim_text::{Action, Message, Sub, TextFault, decode};
+use ssim_text::{Action, LegLine, Legs};
 use ssim_values::Memory;
 use std::alloc::Global;
 
@@ -58,10 +54,10 @@ pub(crate) fn actions_of(
         → IfOk result (λ actions. after_all rows day actions.items old.now ≡ new.now) }
 {
     match candidate {
-        Candidate::NewFlight => whole_legs(alloc, b"NEW", new),
+        Candidate::NewFlight => new_flight(alloc, new),
         Candidate::Times => with_times(alloc, Vec::new(alloc), old, new),
         Candidate::Equipment => equipment(alloc, new),
-        Candidate::Replacement => whole_legs(alloc, b"RPL", new),
+        Candidate::Replacement => replacement(alloc, new),
         Candidate::EquipmentAndTimes => {
             let actions = equipment(alloc, new)?;
             with_times(alloc, actions, old, new)
@@ -74,30 +70,46 @@ pub(crate) fn cancellation(alloc: Global) -> Result<Vec<Action>, Memory>
     ensures said { IfOk result (λ actions. AllByRecursion IsSaid actions.items) }
     ensures found { IfOk result (λ actions. actions.items ≡ Cnl ∷ []) }
 {
-    let text = begun(alloc, b"CNL")?;
-    only_action(alloc, &text)
+    only(alloc, Action::Cnl)
 }
 
-// `NEW` or `RPL`, by its action identifier, with these legs.
-fn whole_legs(alloc: Global, identifier: &[u8], legs: &[PlacedLeg]) -> Result<Vec<Action>, Memory>
+// `NEW` with these legs; nothing if messages cannot have them.
+fn new_flight(alloc: Global, legs: &[PlacedLeg]) -> Result<Vec<Action>, Memory>
     ensures said { IfOk result (λ actions. AllByRecursion IsSaid actions.items) }
-    ensures found { (action : Action)
-        → SpellsMessage (message_of action) (heading identifier.now ++ whole_lines legs.now)
-        → IfOk result (λ actions. actions.items ≡ action ∷ []) }
+    ensures found { (new : NewLegs) → AreNewLegs new → HaveLines new legs.now
+        → IfOk result (λ actions. actions.items ≡ New new ∷ []) }
 {
-    let text = legs_text(alloc, identifier, legs)?;
-    only_action(alloc, &text)
+    match new_legs(alloc, legs)? {
+        None => Ok(Vec::new(alloc)),
+        Some(new) => only(alloc, Action::New(new)),
+    }
 }
 
-// `EQT` with the equipment of the first leg.
+// `RPL` with these legs; nothing if messages cannot have them.
+fn replacement(alloc: Global, legs: &[PlacedLeg]) -> Result<Vec<Action>, Memory>
+    ensures said { IfOk result (λ actions. AllByRecursion IsSaid actions.items) }
+    ensures found { (new : NewLegs) → AreNewLegs new → HaveLines new legs.now
+        → IfOk result (λ actions. actions.items ≡ Rpl new ∷ []) }
+{
+    match new_legs(alloc, legs)? {
+        None => Ok(Vec::new(alloc)),
+        Some(new) => only(alloc, Action::Rpl(new)),
+    }
+}
+
+// `EQT` with the equipment of the first leg; nothing if messages cannot have it.
 fn equipment(alloc: Global, legs: &[PlacedLeg]) -> Result<Vec<Action>, Memory>
     ensures said { IfOk result (λ actions. AllByRecursion IsSaid actions.items) }
-    ensures found { (action : Action)
-        → SpellsMessage (message_of action) (heading (codes "EQT") ++ first_equipment legs.now)
-        → IfOk result (λ actions. actions.items ≡ action ∷ []) }
+    ensures found { (e : EquipmentValue) → IsEquipment e → FirstHas e legs.now
+        → IfOk result (λ actions. actions.items ≡ Eqt e ∷ []) }
 {
-    let text = equipment_text(alloc, legs)?;
-    only_action(alloc, &text)
+    let Some((first, _)) = legs.split_first() else {
+        return Ok(Vec::new(alloc));
+    };
+    match equipment_of(&first.columns()) {
+        None => Ok(Vec::new(alloc)),
+        Some(equipment) => only(alloc, Action::Eqt(equipment)),
+    }
 }
 
 // The actions, and then the `TIM` that give legs their new times.
@@ -109,110 +121,66 @@ fn with_times(
 ) -> Result<Vec<Action>, Memory>
     requires { AllByRecursion IsSaid actions.items }
     ensures said { IfOk result (λ actions. AllByRecursion IsSaid actions.items) }
-    ensures found { (lines : List LegLine) → AllByRecursion IsLegLine lines
-        → map leg_line (retimed_columns old.now new.now) ≡ map leg_text lines
+    ensures found { (lines : List LegLine) → AllZip HasLine lines (retimed_columns old.now new.now)
         → IfOk result (λ more. AddsTimes lines actions.items more.items) }
 {
     let mut actions = actions;
-    let legs = retimed_columns(alloc, old, new)?;
-    push_times(alloc, &mut actions, &legs)?;
+    let lines = retimed_lines(alloc, old, new)?;
+    push_times(alloc, &mut actions, &lines)?;
     Ok(actions)
 }
 
-// Adds `TIM` with the times of legs, each with up to twenty leg lines.
-fn push_times(alloc: Global, actions: &mut Vec<Action>, legs: &[LegColumns]) -> Result<(), Memory>
-    requires { AllByRecursion IsSaid actions.old.items }
+// Adds `TIM` with the leg lines, each with up to twenty.
+fn push_times(alloc: Global, actions: &mut Vec<Action>, lines: &[LegLine]) -> Result<(), Memory>
+    requires before { AllByRecursion IsSaid actions.old.items }
+    requires lines { AllByRecursion IsLegLine lines.now }
     ensures said { OnOk result (AllByRecursion IsSaid actions.new.items) }
-    ensures found { (lines : List LegLine) → AllByRecursion IsLegLine lines
-        → map leg_line legs.now ≡ map leg_text lines
-        → OnOk result (AddsTimes lines actions.old.items actions.new.items) }
+    ensures added { OnOk result (AddsTimes lines.now actions.old.items actions.new.items) }
 {
-    if legs.is_empty() {
+    if lines.is_empty() {
         return Ok(());
     }
-    let (first, later) = first_legs(legs);
+    let (first, later) = first_lines(lines);
     push_few_times(alloc, actions, first)?;
     push_times(alloc, actions, later)
 }
 
-// Up to twenty legs, and the others.
-fn first_legs(legs: &[LegColumns]) -> (&[LegColumns], &[LegColumns])
-    ensures first { result.0.now ≡ take 20 legs.now }
-    ensures later { result.1.now ≡ drop 20 legs.now }
+// Up to twenty leg lines, and the others.
+fn first_lines(lines: &[LegLine]) -> (&[LegLine], &[LegLine])
+    requires some { 1 ≤ length lines.now }
+    requires lines { AllByRecursion IsLegLine lines.now }
+    ensures first { result.0.now ≡ take 20 lines.now }
+    ensures later { result.1.now ≡ drop 20 lines.now }
+    ensures few { (1 ≤ length result.0.now) × (length result.0.now ≤ 20) }
+    ensures first_are { AllByRecursion IsLegLine result.0.now }
+    ensures later_are { AllByRecursion IsLegLine result.1.now }
 {
-    if MOST_LEGS <= legs.len() {
-        legs.split_at(MOST_LEGS)
+    if MOST_LEGS <= lines.len() {
+        lines.split_at(MOST_LEGS)
     } else {
-        legs.split_at(legs.len())
+        lines.split_at(lines.len())
     }
 }
 
-// Adds `TIM` with the times of up to twenty legs.
-fn push_few_times(
-    alloc: Global,
-    actions: &mut Vec<Action>,
-    legs: &[LegColumns],
-) -> Result<(), Memory>
-    requires { AllByRecursion IsSaid actions.old.items }
+// Adds `TIM` with one to twenty leg lines.
+fn push_few_times(alloc: Global, actions: &mut Vec<Action>, lines: &[LegLine]) -> Result<(), Memory>
+    requires before { AllByRecursion IsSaid actions.old.items }
+    requires few { (1 ≤ length lines.now) × (length lines.now ≤ 20) }
+    requires lines { AllByRecursion IsLegLine lines.now }
     ensures said { OnOk result (AllByRecursion IsSaid actions.new.items) }
-    ensures found { (lines : List LegLine) → IsBody (Tim lines) → AllByRecursion IsLegLine lines
-        → map leg_line legs.now ≡ map leg_text lines
-        → OnOk result (actions.new.items ≡ actions.old.items ++ Tim lines ∷ []) }
+    ensures added { OnOk result (actions.new.items ≡ actions.old.items ++ Tim lines.now ∷ []) }
 {
-    let text = times_text(alloc, legs)?;
-    push_action(alloc, actions, &text)
-}
-
-// The action of a text; none if the text spells no message.
-fn only_action(alloc: Global, text: &[u8]) -> Result<Vec<Action>, Memory>
-    ensures said { IfOk result (λ actions. AllByRecursion IsSaid actions.items) }
-    ensures found { (action : Action) → SpellsMessage (message_of action) text.now
-        → IfOk result (λ actions. actions.items ≡ action ∷ []) }
-{
-    let mut actions = Vec::new(alloc);
-    push_action(alloc, &mut actions, text)?;
-    Ok(actions)
-}
-
-// Adds the action of a text, if the text spells a message.
-fn push_action(alloc: Global, actions: &mut Vec<Action>, text: &[u8]) -> Result<(), Memory>
-    requires { AllByRecursion IsSaid actions.old.items }
-    ensures said { OnOk result (AllByRecursion IsSaid actions.new.items) }
-    ensures found { (action : Action) → SpellsMessage (message_of action) text.now
-        → OnOk result (actions.new.items ≡ actions.old.items ++ action ∷ []) }
-{
-    if let Some(action) = action_of(alloc, text)? {
-        actions.push(action)?;
-    }
+    actions.push(Action::Tim(Legs::of(alloc, lines)?))?;
     Ok(())
 }
 
-// The first action of a text, if the text spells a message.
-fn action_of(alloc: Global, text: &[u8]) -> Result<Option<Action>, Memory>
-    ensures said { IfOk result (λ read. IfSome read IsSaid) }
-    ensures found { (action : Action) → SpellsMessage (message_of action) text.now
-        → IfOk result (λ read. read ≡ Some action) }
+// This action.
+fn only(alloc: Global, action: Action) -> Result<Vec<Action>, Memory>
+    requires { IsSaid action }
+    ensures said { IfOk result (λ actions. AllByRecursion IsSaid actions.items) }
+    ensures only { IfOk result (λ actions. actions.items ≡ action ∷ []) }
 {
-    match decode(alloc, text) {
-        Ok(message) => first_action(&message),
-        Err(TextFault::Memory) => Err(Memory),
-        Err(TextFault::Refused { .. }) => Ok(None),
-    }
-}
-
-// The action of the first sub-message.
-fn first_action(message: &Message) -> Result<Option<Action>, Memory>
-    ensures said { IfOk result (λ read. IfSome read IsSaid) }
-    ensures found { (action : Action) → message.now ≡ message_of action
-        → IfOk result (λ read. read ≡ Some action) }
-{
-    // No effect at run time. The proof reads from it that a text spells the message.
-    let _ = message.text();
-    match message.subs().split_first() {
-        None => Ok(None),
-        Some((sub, _)) => {
-            let Sub { action, .. } = sub.clone()?;
-            Ok(Some(action))
-        }
-    }
+    let mut actions = Vec::new(alloc);
+    actions.push(action)?;
+    Ok(actions)
 }

@@ -1,11 +1,10 @@
 //! The heading of the messages, as a word names it.
 
-ghost use Rattle.std.specs.Prelude.{◌≡◌, ◌∷◌, ◌++◌, [], ℕ, List, length, true};
+ghost use Rattle.std.specs.Prelude.{◌≡◌, ◌∷◌, ◌++◌, [], ℕ, List, length};
 ghost use Rattle.std.specs.Prelude.{IfErr, IfNone, IfOk, IfSome, OnOk};
 ghost use Rattle.std.specs.List.{list_all};
-ghost use Rattle.ssim_text.specs.Bytes.{is_alphanumeric, is_printable};
+ghost use Rattle.ssim_text.specs.Bytes.{is_alphanumeric};
 ghost use Rattle.ssim_text.specs.Spelling.{SpellsMessage};
-ghost use Rattle.ssim_outbox.specs.Sayable.{IsTextLine};
 ghost use Rattle.ssim_values.specs.Designator.{SpellsDesignator, designator_text};
 ghost use Rattle.ssim_outbox.specs.Heading.{NamesHeading};
 ghost use Rattle.ssim_outbox.specs.internal.Headings.{RefusesText, RefusesWord, added_lines};
@@ -14,7 +13,7 @@ ghost use Rattle.ssim_outbox.specs.internal.Headings.{first_flight};
 
 use crate::fault::OutboxFault;
 use ssim_records::Carrier;
-use ssim_text::{Message, TextFault, decode, push_line, push_mode, without_end};
+use ssim_text::{Message, TextFault, decode, is_text_line, push_line, push_mode};
 use ssim_values::{Airline, Designator, Flight, Memory};
 use std::alloc::Global;
 
@@ -56,7 +55,7 @@ fn plain_heading(alloc: Global, carrier: &Carrier, word: &[u8]) -> Result<Messag
     ensures subs { IfOk result (λ heading. heading.subs ≡ cancellation carrier.now.airline ∷ []) }
     ensures err { IfErr result (RefusesWord carrier.now.time_mode word.now) }
 {
-    if !is_line(word) {
+    if !is_text_line(word) {
         return Err(OutboxFault::Reference);
     }
     let text = Vec::new(alloc);
@@ -80,7 +79,7 @@ fn originated_heading(
     if !are_alphanumeric(address) {
         return Err(OutboxFault::Reference);
     }
-    if !is_line(line) {
+    if !is_text_line(line) {
         return Err(OutboxFault::Reference);
     }
     let mut text = Vec::new(alloc);
@@ -103,20 +102,6 @@ fn are_alphanumeric(text: &[u8]) -> bool
     ensures { result ≡ list_all is_alphanumeric text.now }
 {
     text.iter().all(|byte| (b'A' <= *byte && *byte <= b'Z') || (b'0' <= *byte && *byte <= b'9'))
-}
-
-// Whether bytes are a line that a text can have: printable, and without a blank at the end.
-fn is_line(line: &[u8]) -> bool
-    ensures yes { result ≡ true → IsTextLine line.now }
-    ensures only { IsTextLine line.now → result ≡ true }
-{
-    !line.is_empty() && is_printable(line) && without_end(line) == line
-}
-
-fn is_printable(line: &[u8]) -> bool
-    ensures { result ≡ list_all is_printable line.now }
-{
-    line.iter().all(|byte| 32 <= *byte && *byte <= 126)
 }
 
 // The message of a text that has these first lines, and then the heading with a reference line.

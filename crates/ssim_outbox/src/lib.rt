@@ -52,9 +52,9 @@
 //! there is one.
 #![tactic(auto)]
 
-mod action_text;
 mod address;
 mod candidates;
+mod column_lines;
 mod date_actions;
 mod delivery;
 mod draft;
@@ -66,11 +66,11 @@ mod heading;
 mod heading_lines;
 mod held_days;
 pub mod laws;
-mod line_text;
 mod made_dates;
 mod mail_file;
 mod mark;
 mod messages;
+mod new_lines;
 mod obstacle;
 mod order;
 mod period_actions;

@@ -1,13 +1,17 @@
 //! The legs whose times are not those of the old legs, and whether other times can make the new
 //! legs of the old ones.
 
-ghost use Rattle.std.specs.Prelude.{◌≡◌, ◌++◌, IfOk, IsTrue, OnOk};
+ghost use Rattle.std.specs.Prelude.{◌≡◌, ◌++◌, List, IfOk, IsTrue, OnOk};
+ghost use Rattle.std.specs.List.{AllByRecursion, AllZip};
 ghost use Rattle.std.specs.Str.{bytes_eq};
 ghost use Rattle.ssim_columns.specs.clauses.Leg.{is_own};
 ghost use Rattle.ssim_columns.specs.Leg.{leg_columns};
-ghost use Rattle.ssim_outbox.specs.internal.ColumnLines.{retimed_columns, same_route};
+ghost use Rattle.ssim_text.specs.Grammar.{IsLegLine};
+ghost use Rattle.ssim_text.specs.declared.leg.LegLine.{LegLine};
+ghost use Rattle.ssim_outbox.specs.internal.ColumnLines.{HasLine, retimed_columns, same_route};
 ghost use Rattle.ssim_outbox.specs.internal.ColumnLines.{same_stations, same_times};
 
+use crate::new_lines::push_leg_line;
 use ssim_columns::Field;
 use ssim_records::LegColumns;
 use ssim_records::leg_fields::{
@@ -15,30 +19,36 @@ use ssim_records::leg_fields::{
     PASSENGER_ARRIVAL, PASSENGER_DEPARTURE,
 };
 use ssim_schedule::PlacedLeg;
+use ssim_text::LegLine;
 use ssim_values::Memory;
 use std::alloc::Global;
 
-/// The columns of the legs whose times are not those of the old legs.
-pub(crate) fn retimed_columns(
+/// The leg lines of the legs whose times are not those of the old legs. Legs that no line can spell
+/// have none.
+pub(crate) fn retimed_lines(
     alloc: Global,
     old: &[PlacedLeg],
     new: &[PlacedLeg],
-) -> Result<Vec<LegColumns>, Memory>
-    ensures { IfOk result (λ columns. columns.items ≡ retimed_columns old.now new.now) }
+) -> Result<Vec<LegLine>, Memory>
+    ensures are { IfOk result (λ lines. AllByRecursion IsLegLine lines.items) }
+    ensures found { (all : List LegLine) → AllZip HasLine all (retimed_columns old.now new.now)
+        → IfOk result (λ lines. lines.items ≡ all) }
 {
-    let mut columns = Vec::new(alloc);
-    push_retimed(&mut columns, old, new)?;
-    Ok(columns)
+    let mut lines = Vec::new(alloc);
+    push_retimed(&mut lines, old, new)?;
+    Ok(lines)
 }
 
-// Adds the columns of the legs whose times are not those of the old legs.
+// Adds the leg lines of the legs whose times are not those of the old legs.
 fn push_retimed(
-    columns: &mut Vec<LegColumns>,
+    lines: &mut Vec<LegLine>,
     old: &[PlacedLeg],
     new: &[PlacedLeg],
 ) -> Result<(), Memory>
-    ensures { OnOk result
-        (columns.new.items ≡ columns.old.items ++ retimed_columns old.now new.now) }
+    requires { AllByRecursion IsLegLine lines.old.items }
+    ensures are { OnOk result (AllByRecursion IsLegLine lines.new.items) }
+    ensures found { (all : List LegLine) → AllZip HasLine all (retimed_columns old.now new.now)
+        → OnOk result (lines.new.items ≡ lines.old.items ++ all) }
 {
     match old.split_first() {
         None => Ok(()),
@@ -46,10 +56,10 @@ fn push_retimed(
             None => Ok(()),
             Some((new_leg, new)) => {
                 if have_same_times(&old_leg.columns(), &new_leg.columns()) {
-                    return push_retimed(columns, old, new);
+                    return push_retimed(lines, old, new);
                 }
-                columns.push(new_leg.columns())?;
-                push_retimed(columns, old, new)
+                push_leg_line(lines, &new_leg.columns())?;
+                push_retimed(lines, old, new)
             }
         },
     }

@@ -1,7 +1,6 @@
 //! Which segment data `NEW` and `RPL` give to a leg.
 
-ghost use Rattle.std.specs.Prelude.{◌≤◌};
-
+use crate::column_lines::number_of;
 use ssim_records::SegmentTail;
 use ssim_schedule::PlacedLeg;
 use ssim_text::{LegEnd, LegLine, leg_pair, read_station, without_end};
@@ -69,15 +68,4 @@ fn given(lines: &[LegLine], place: usize, tail: &SegmentTail) -> Option<SegmentT
 // The letter at a distance after the first letter.
 fn letter(first: u8, distance: usize) -> u8 {
     first.saturating_add(distance.min(25) as u8)
-}
-
-// The number that three digits spell; of other bytes any number, which has other digits.
-fn number_of(digits: [u8; 3]) -> u16 {
-    100 * value_of(digits[0]) + 10 * value_of(digits[1]) + value_of(digits[2])
-}
-
-fn value_of(digit: u8) -> u16
-    ensures { result ≤ 255 }
-{
-    digit.saturating_sub(b'0') as u16
 }

@@ -1,14 +1,18 @@
--- The text is the canonical text of TIM with these lines.
-use Rattle.std.proofs.Common.{◌∙◌, ℕ, List, sym, subst}
-use Rattle.ssim_text.specs.Spelling.{SpellsMessage}
+-- TIM with these lines can be said.
+use Rattle.std.proofs.Common.{List, [], ◌∷◌, subst, sym}
+use Rattle.std.specs.List.{AllByRecursion}
 use Rattle.ssim_text.specs.declared.action.Action.TheVariants.{Tim}
-use Rattle.ssim_outbox.specs.internal.ActionTexts.{message_of}
-use Rattle.ssim_outbox.proofs.Tried.{tim_spelled}
+use Rattle.ssim_text.specs.declared.leg.LegLine.{LegLine}
+use Rattle.ssim_text.proofs.ReadsBack.{all_both}
+use Rattle.ssim_outbox.specs.Reach.{IsSaid}
+use Rattle.ssim_outbox.proofs.SaidActions.{said_if_allowed}
 use Rattle.ssim_outbox.proofs.candidates.push_few_times.Goals as goal
 
-pub returns-clause-found : goal.returns-clause-found
-returns-clause-found c = λ lines body are texts.
-    c.push_action.ensures.found (Tim lines)
-    (subst (λ (t : List ℕ). SpellsMessage (message_of (Tim lines)) t)
-    (sym (c.deref.ensures.value ∙ c.in_ok-text.ensures))
-    (tim_spelled lines c.args.legs.now body are texts))
+pub returns-clause-said : goal.returns-clause-said
+returns-clause-said c =
+    let lines = c.args.lines.now in
+    let legs = c.in_ok-of.field-0 in
+    let said = said_if_allowed (Tim lines) c.requires.few c.requires.lines in
+    subst (AllByRecursion IsSaid) (sym c.in_ok-push.ensures.items)
+    (all_both IsSaid c.args.actions.now.items (Tim legs ∷ []) c.requires.before
+    (subst (λ (x : List LegLine). IsSaid (Tim x)) (sym c.in_ok-of.ensures) said, tt))
