@@ -10,13 +10,12 @@ use Rattle.ssim_text.specs.Canonical.{reference_text, three_digits, written}
 use Rattle.ssim_text.specs.Grammar.{Divider, KindPart, ModePart, ReferencePart, sub_parts, subs_parts}
 use Rattle.ssim_text.specs.Lines.{kind_text, mode_text}
 use Rattle.ssim_text.specs.Message.{MessageValue}
-use Rattle.ssim_text.specs.Spelling.{SpellsMessage}
 use Rattle.ssim_text.specs.declared.action.Sub.{Sub}
 use Rattle.ssim_text.proofs.Writing.{written_both}
 use Rattle.ssim_values.specs.DayMonth.{month_day_text}
 use Rattle.ssim_outbox.specs.clauses.Messages.{IsAlone}
-use Rattle.ssim_outbox.specs.Messages.{IsFirst, IsFull, headed}
-use Rattle.ssim_outbox.specs.internal.Texts.{IsFullText, heading_parts}
+use Rattle.ssim_outbox.specs.Messages.{IsFirst, IsFull, IsText, headed}
+use Rattle.ssim_outbox.specs.internal.Texts.{IsFullAt, heading_parts}
 use Rattle.ssim_outbox.proofs.TextLines.{in_two, one_more}
 use Rattle.ssim_outbox.proofs.Together.{together}
 
@@ -75,15 +74,14 @@ heading_length h g k =
     ∙ sym (ap length (written_both own (three k)))
 
 -- a sub-message that a text can have alone fits into a text with any group serial
-pub first_short : (h : MessageValue) (g : ℕ) (sub : Sub) (text : List ℕ) → IsAlone h sub
-    → text ≡ canonical (headed h g (sub ∷ [])) → length text ≤ 65536
-first_short h g sub text alone is =
+pub first_short : (h : MessageValue) (g : ℕ) (sub : Sub) → IsAlone h sub
+    → length (canonical (headed h g (sub ∷ []))) ≤ 65536
+first_short h g sub alone =
     let k = h.reference.group in
     let own = written (subs_parts (sub ∷ [])) in
     let short = alone.canonical_short in
     omega (
       arith,
-      ap length is,
       ap length (in_two h g (sub ∷ [])),
       length-append (written (heading_parts h g)) own,
       heading_length h g k,
@@ -94,16 +92,20 @@ first_short h g sub text alone is =
 
 -- ---- one more sub-message
 
-pub more_text : (h : MessageValue) (g : ℕ) (first : Sub) (later : List Sub) (at : ℕ) (sub : Sub)
-    (text lines new : List ℕ) → at < length later → sub ≡ get_or later at sub
-    → text ≡ canonical (headed h g (first ∷ take at later)) → lines ≡ written (Divider ∷ sub_parts sub)
-    → new ≡ text ++ lines → new ≡ canonical (headed h g (first ∷ take (at + 1) later))
-more_text h g first later at sub text lines new lt is text_is lines_are new_is =
-    new_is ∙ ap (λ (x : List ℕ). x ++ lines) text_is
-    ∙ ap (λ (x : List ℕ). canonical (headed h g (first ∷ take at later)) ++ x) lines_are
-    ∙ sym (one_more h g first (take at later) sub)
-    ∙ ap (λ (x : Sub). canonical (headed h g (first ∷ (take at later ++ x ∷ [])))) is
-    ∙ ap (λ (x : List Sub). canonical (headed h g (first ∷ x))) (sym (take_more later at sub lt))
+-- the bytes of a text with the first sub-message and this many of the later ones
+abbrev pub bytes_at : MessageValue → ℕ → Sub → List Sub → ℕ → ℕ
+bytes_at h g first later at = length (canonical (headed h g (first ∷ take at later)))
+
+pub more_bytes : (h : MessageValue) (g : ℕ) (first : Sub) (later : List Sub) (at : ℕ) (sub : Sub)
+    → at < length later → sub ≡ get_or later at sub
+    → bytes_at h g first later (at + 1)
+    ≡ bytes_at h g first later at + length (written (Divider ∷ sub_parts sub))
+more_bytes h g first later at sub lt is =
+    let taken : take (at + 1) later ≡ take at later ++ sub ∷ [] =
+    take_more later at sub lt ∙ ap (λ (x : Sub). take at later ++ x ∷ []) (sym is) in
+    ap (λ (x : List Sub). length (canonical (headed h g (first ∷ x)))) taken
+    ∙ ap length (one_more h g first (take at later) sub)
+    ∙ length-append (canonical (headed h g (first ∷ take at later))) (written (Divider ∷ sub_parts sub))
 
 next_of : (subs : List Sub) (at : ℕ) (sub : Sub) → at < length subs → sub ≡ get_or subs at sub
     → drop at subs ≡ sub ∷ drop (at + 1) subs
@@ -114,42 +116,31 @@ next_of subs at sub lt is =
 
 -- ---- the text is full
 
-module _ (h : MessageValue) (g : ℕ) (first : Sub) (later : List Sub) (at : ℕ) (text : List ℕ)
-    (few : at ≤ 249) (within : at ≤ length later)
-    (text_is : text ≡ canonical (headed h g (first ∷ take at later))) (short : length text ≤ 65536) where
-  counted : IsFull (headed h g (first ∷ take at later)) (drop at later) → IsFullText h g (first ∷ later) text
-  counted full = record {
-    count = suc at;
-    some = omega arith;
-    few = omega (arith, few);
-    within = omega (arith, within);
-    text_is = text_is;
-    short = short;
-    full = full;
-  }
+module _ (h : MessageValue) (g : ℕ) (first : Sub) (later : List Sub) (at : ℕ) (few : at ≤ 249)
+    (within : at ≤ length later) (short : bytes_at h g first later at ≤ 65536) where
+  counted : IsFull (headed h g (first ∷ take at later)) (drop at later) → IsFullAt h g first later at
+  counted full = record { few = few; within = within; short = short; full = full }
 
-  pub none_left : length later ≤ at → IsFullText h g (first ∷ later) text
+  pub none_left : length later ≤ at → IsFullAt h g first later at
   none_left le =
       counted (subst (IsFull (headed h g (first ∷ take at later))) (sym (drop_of_length-le later {i = at} le)) tt)
 
   pub many : (sub : Sub) → at < length later → sub ≡ get_or later at sub → at ≡ 249
-      → IsFullText h g (first ∷ later) text
+      → IsFullAt h g first later at
   many sub lt is most =
       counted (subst (IsFull (headed h g (first ∷ take at later))) (sym (next_of later at sub lt is))
       (inl (omega (arith, most, within, length-take at later))))
 
-  pub too_long : (sub : Sub) (lines : List ℕ) → at < length later → sub ≡ get_or later at sub
-      → lines ≡ written (Divider ∷ sub_parts sub) → 65536 < length text + length lines
-      → IsFullText h g (first ∷ later) text
-  too_long sub lines lt is lines_are long =
+  pub too_long : (sub : Sub) → at < length later → sub ≡ get_or later at sub
+      → 65536 < bytes_at h g first later at + length (written (Divider ∷ sub_parts sub))
+      → IsFullAt h g first later at
+  too_long sub lt is long =
       let whole = canonical (headed h g (first ∷ take at later)) in
       let own = written (Divider ∷ sub_parts sub) in
       counted (subst (IsFull (headed h g (first ∷ take at later))) (sym (next_of later at sub lt is))
       (inr (omega (
         arith,
         long,
-        ap length text_is,
-        ap length lines_are,
         ap length (one_more h g first (take at later) sub),
         length-append whole own,
       ))))
@@ -162,37 +153,26 @@ all_taken P zero xs h = tt
 all_taken P (suc n) [] h = tt
 all_taken P (suc n) (x ∷ xs) h = (h.0, all_taken P n xs h.1)
 
-module _ (h : MessageValue) (g : ℕ) (first : Sub) (later : List Sub) (text : List ℕ)
-    (few : g ≤ 99999) (alone : IsAlone h first) (each : AllByRecursion (IsAlone h) later)
-    (full : IsFullText h g (first ∷ later) text) where
-  spelled_by : (n : ℕ) → 1 ≤ n → n ≤ 250 → n ≤ length (first ∷ later)
-      → text ≡ canonical (headed h g (take n (first ∷ later)))
-      → SpellsMessage (headed h g (take n (first ∷ later))) text
-  spelled_by zero some most within is = absurd (omega (arith, some))
-  spelled_by (suc n) some most within is =
-      let short = full.short in
-      subst (λ (x : List ℕ). SpellsMessage (headed h g (first ∷ take n later)) x) (sym is)
-      (together h g first (take n later) few alone (all_taken (IsAlone h) n later each)
-      (omega (arith, most, length-take n later)) (omega (arith, short, ap length is)))
+module _ (h : MessageValue) (g : ℕ) (first : Sub) (later : List Sub) (count : ℕ) (few : g ≤ 99999)
+    (alone : IsAlone h first) (each : AllByRecursion (IsAlone h) later)
+    (full : IsFullAt h g first later count) where
+  -- a text can have the message
+  pub spelled : IsText (headed h g (first ∷ take count later))
+  spelled =
+      let most = full.few in
+      together h g first (take count later) few alone (all_taken (IsAlone h) count later each)
+      (omega (arith, most, length-take count later)) full.short
 
-  spelled : SpellsMessage (headed h g (take full.count (first ∷ later))) text
-  spelled = spelled_by full.count full.some full.few full.within full.text_is
-
-  pub not_refused : ((n : MessageValue) → SpellsMessage n text → ⊥) → ⊥
-  not_refused none = none _ spelled
-
-  pub is_first : (m : MessageValue) → ((n : MessageValue) → SpellsMessage n text → n ≡ m)
+  pub is_first : (m : MessageValue) → m ≡ headed h g (first ∷ take count later)
       → IsFirst h g (first ∷ later) m
-  is_first m only =
-      let same : headed h g (take full.count (first ∷ later)) ≡ m = only _ spelled in
+  is_first m is =
       let within = full.within in
-      let count : length m.subs ≡ full.count =
-      ap (λ (x : MessageValue). length x.subs) (sym same)
-      ∙ omega (arith, within, length-take full.count (first ∷ later)) in
+      let count_is : length m.subs ≡ suc count =
+      ap (λ (x : MessageValue). length x.subs) is
+      ∙ omega (arith, within, length-take count later) in
       record {
-        own = sym same ∙ ap (λ (n : ℕ). headed h g (take n (first ∷ later))) (sym count);
-        text = subst (λ (x : MessageValue). SpellsMessage x (canonical x)) same
-            (subst (SpellsMessage (headed h g (take full.count (first ∷ later)))) full.text_is spelled);
-        full = subst (λ (n : ℕ). IsFull m (drop n (first ∷ later))) (sym count)
-            (subst (λ (x : MessageValue). IsFull x (drop full.count (first ∷ later))) same full.full);
+        own = is ∙ ap (λ (n : ℕ). headed h g (take n (first ∷ later))) (sym count_is);
+        text = subst IsText (sym is) spelled;
+        full = subst (λ (n : ℕ). IsFull m (drop n (first ∷ later))) (sym count_is)
+            (subst (λ (x : MessageValue). IsFull x (drop count later)) (sym is) full.full);
       }

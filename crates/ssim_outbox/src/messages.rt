@@ -7,11 +7,11 @@ ghost use Rattle.ssim_text.specs.Grammar.{Divider, sub_parts};
 ghost use Rattle.ssim_text.specs.Message.{MessageValue};
 ghost use Rattle.ssim_outbox.specs.clauses.Messages.{IsAlone, RefusesSubs};
 ghost use Rattle.ssim_outbox.specs.Messages.{IsFirst, Send, headed};
-ghost use Rattle.ssim_outbox.specs.internal.Texts.{IsFullText};
+ghost use Rattle.ssim_outbox.specs.internal.Texts.{IsFullAt};
 
 use crate::heading_lines::heading_lines;
 use crate::send_fault::SendFault;
-use ssim_text::{Message, Sub, TextFault, decode, push_line};
+use ssim_text::{GivenReference, Message, Sub, push_line};
 use ssim_values::Memory;
 use std::alloc::Global;
 
@@ -83,35 +83,61 @@ fn next_message(
     requires later { AllByRecursion (IsAlone heading.now) later.now }
     ensures { IfOk result (IsFirst heading.now group (first.now ∷ later.now)) }
 {
-    let text = full_text(alloc, heading, group, first, later)?;
-    match decode(alloc, &text) {
-        Ok(message) => Ok(message),
-        Err(TextFault::Memory) => Err(Memory),
-        Err(TextFault::Refused { .. }) => unreachable!(),
-    }
+    let count = later_count(alloc, heading, group, first, later)?;
+    let subs = copies(alloc, first, &later[..count])?;
+    let reference = with_group(heading.reference(), group)?;
+    Message::new(
+        alloc,
+        heading.originator(),
+        heading.kind(),
+        heading.mode(),
+        reference,
+        subs,
+    )
 }
 
-// The text of that message.
-fn full_text(
+// How many later sub-messages a text can have after the first one.
+fn later_count(
     alloc: Global,
     heading: &Message,
     group: u32,
     first: &Sub,
     later: &[Sub],
-) -> Result<Vec<u8>, Memory>
+) -> Result<usize, Memory>
     requires { IsAlone heading.now first.now }
-    ensures { IfOk result
-        (λ text. IsFullText heading.now group (first.now ∷ later.now) text.items) }
+    ensures { IfOk result (IsFullAt heading.now group first.now later.now) }
 {
-    let mut text = first_text(alloc, heading, group, first)?;
+    let text = first_text(alloc, heading, group, first)?;
+    let mut bytes = text.len();
     for (at, sub) in later.iter().enumerate() {
         let lines = later_lines(alloc, sub)?;
-        if at + 1 == MOST_SUBS || text.len() + lines.len() > MOST_BYTES {
-            return Ok(text);
+        if at + 1 == MOST_SUBS || bytes + lines.len() > MOST_BYTES {
+            return Ok(at);
         }
-        text.extend_from_slice(&lines)?;
+        bytes += lines.len();
     }
-    Ok(text)
+    Ok(later.len())
+}
+
+// Equal sub-messages.
+fn copies(alloc: Global, first: &Sub, later: &[Sub]) -> Result<Vec<Sub>, Memory>
+    ensures { IfOk result (λ subs. subs.items ≡ first.now ∷ later.now) }
+{
+    let mut subs = Vec::with_capacity(alloc, later.len() + 1)?;
+    subs.push(first.clone()?)?;
+    for sub in later {
+        subs.push(sub.clone()?)?;
+    }
+    Ok(subs)
+}
+
+// The reference with this group serial.
+fn with_group(reference: &GivenReference, group: u32) -> Result<GivenReference, Memory>
+    ensures { IfOk result (λ own. own ≡ record reference.now { group = group }) }
+{
+    let mut own = reference.clone()?;
+    own.group = group;
+    Ok(own)
 }
 
 // The text of a message with one sub-message.

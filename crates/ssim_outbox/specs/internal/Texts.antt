@@ -15,17 +15,13 @@ heading_parts heading group =
     ∷ ReferencePart (record heading.reference { group = group })
     ∷ [])
 
--- the text is the canonical text of a message with the first sub-messages, which takes no further
--- one
-pub record IsFullText (heading : MessageValue) (group : ℕ) (subs : List Sub)
-    (text : List ℕ) : Type 0 where
-  pub count : ℕ
-  pub some : 1 ≤ count
-  pub few : count ≤ 250
-  pub within : count ≤ length subs
-  pub text_is : text ≡ canonical (headed heading group (take count subs))
-  pub short : length text ≤ 65536
-  pub full : IsFull (headed heading group (take count subs)) (drop count subs)
+-- a text can have the first sub-message and this many of the later ones, and no further one
+pub record IsFullAt (heading : MessageValue) (group : ℕ) (first : Sub) (later : List Sub)
+    (count : ℕ) : Type 0 where
+  pub few : count ≤ 249
+  pub within : count ≤ length later
+  pub short : length (canonical (headed heading group (first ∷ take count later))) ≤ 65536
+  pub full : IsFull (headed heading group (first ∷ take count later)) (drop count later)
 
 -- The messages so far send the sub-messages but for those that are left: whatever messages send
 -- these from the group serial on, the messages so far and they send all; and all messages that
