@@ -55,10 +55,13 @@ def of_lines(room, words, lines):
 
 
 def of_page(room, lines):
-    """What is compared of the page of TO: its title, the flights and the rows."""
-    answer, parts = room("page", "TO"), ("<h1>", "<section>", "<tr>", "</table>")
-    printed = [line for line in answer.out.decode("latin-1").split("\n") if line.startswith(parts)]
-    return "page TO", [answer.status, answer.err, *printed], [0, "", *lines]
+    """What is compared of the page of TO: its title, and all of its timetable."""
+    answer = room("page", "TO")
+    printed = answer.out.decode("latin-1")
+    title = [line for line in printed.split("\n") if line.startswith("<header><h1>")]
+    begin = printed.find('<section id="timetable">')
+    timetable = printed[begin:printed.find("</section>", begin)].split("\n")[:-1] if begin >= 0 else []
+    return "page TO", [answer.status, answer.err, *title, *timetable], [0, "", *lines]
 
 
 def compared(rng, room, season):

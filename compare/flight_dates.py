@@ -248,34 +248,40 @@ def legend_lines(days, cells):
 # ---- page
 
 def page_lines(table):
-    """The lines of `page` that are not how it looks: its title, the flights and their rows."""
+    """The lines of `page` that are not how it looks: its title, and its timetable."""
     mode = "UTC" if table.mode == "U" else "local times"
-    lines = [f"<h1>{table.airline} {escaped(table.season)}, {mode}</h1>"]
+    all_days = {day for days in table.flights.values() for day in days}
+    ends = f" {date(min(all_days))} {date(max(all_days))}" if all_days else ""
+    lines = [f"<header><h1>{table.airline} {escaped(table.season)}, {mode}</h1>", f'<section id="timetable"><h2>Timetable{ends}</h2>']
     for flight, days in table.flights.items():
-        lines.append(f"<section><h2>{table.designator(flight)}</h2><table>")
-        periods = divided(days)
-        letters = {key: LETTERS[place] if place < len(LETTERS) else "#"
-                   for place, key in enumerate(dict.fromkeys(days[day] for _, day in periods))}
-        lines += [table_row(letters[days[day]], period, days[day]) for period, day in periods]
-        lines.append("</table></section>")
+        name = table.designator(flight)
+        lines += [f'<article id="{name}"><h3>{name}</h3><pre>', *flight_lines(days), "</pre></article>"]
     return lines
 
 
-def table_row(letter, period, legs):
-    first, last, weekdays = period
-    boxes = "".join(f"<b>{digit}</b>" if place in weekdays else "<i>.</i>" for place, digit in enumerate(WEEKDAYS))
-    routes = "".join(f"<div>{leg.at(37, 39)} {leg.at(44, 47)}{days_later(leg.at(193, 193))} "
-                     f"{leg.at(55, 57)} {leg.at(58, 61)}{days_later(leg.at(194, 194))}</div>" for leg in legs)
-    aircraft = "".join(f"<div>{escaped(leg.at(73, 75))}</div>" for leg in legs)
-    return "<tr>" + "".join(f"<td>{cell}</td>" for cell in (letter, date(first), date(last), boxes, routes, aircraft)) + "</tr>"
+def flight_lines(days):
+    """The legs of each different itinerary, and the periods, each with the key of its itinerary."""
+    periods = divided(days)
+    itineraries = list(dict.fromkeys(days[day] for _, day in periods))
+    keys = {legs: LETTERS[place] if place < len(LETTERS) else str(place + 1) for place, legs in enumerate(itineraries)}
+    all_legs = {leg for legs in itineraries for leg in legs}
+    rows = {leg: page_row(leg) for leg in all_legs}
+    lines = []
+    for legs in itineraries:
+        for leg in legs:
+            is_like_one = any(other != leg and rows[other] == rows[leg] for other in all_legs)
+            lines.append(f"{keys[legs]} {rows[leg]}" + " *" * is_like_one)
+    return lines + [period_line(keys[days[day]], period) for period, day in periods]
 
 
-def days_later(variation):
-    return "" if variation in "0 " else " +" + escaped(variation)
+def page_row(leg):
+    """The line of `show`, and four fields as words."""
+    words = (leg.at(*field).rstrip().replace(" ", ".") or "." for field in ((53, 54), (71, 72), (76, 95), (173, 192)))
+    return escaped(" ".join([leg.line, *words]))
 
 
 def escaped(text):
-    return "".join({"&": "&amp;", "<": "&lt;", ">": "&gt;"}.get(byte, byte if byte < "\x7f" else f"&#{ord(byte)};") for byte in text)
+    return "".join({"&": "&amp;", "<": "&lt;", ">": "&gt;"}.get(byte, byte if byte < "\x7f" else "&#65533;") for byte in text)
 
 
 # ---- diff

@@ -1,2 +1,2 @@
 -- Computed examples.
-pub mod Rows
+pub mod Texts

@@ -1,24 +1,27 @@
 //! A timetable as one page of HTML, complete in itself: it names no other file.
 //!
-//! - [`page_of`]: the page of an airline's flights. Each flight has a section with a row for each
-//!   of its periods: a letter for its itinerary, the first and the last day, seven boxes for the
-//!   days of operation, the route with its times, and the aircraft types.
+//! - [`page_of`]: the page of an airline's flights. Each flight is an article with a line for each
+//!   leg of its different itineraries, and a line for each of its periods.
 //! - [`PageHeading`]: the airline, the season and the time mode, which are the page's title.
 //!
 //! The flights are those that `ssim_schedule` gives, each with its pieces: the periods of the
-//! export. The letters are those of the flight's calendar. All text of the data set is escaped, so
-//! the page is ASCII. The only error is [`Memory`].
+//! export. All text of the data set is escaped, so the page is ASCII. The only error is [`Memory`].
 //!
-//! **Promise.** Each piece of each flight is a row exactly once, in order. How the page looks, and
-//! the box that filters by flight or station, are not specified.
+//! How the page looks and what it does are three constant texts, the files of `look/`.
+//! `make/look.py` writes them into `look.rt`.
+//!
+//! **Promise.** The bytes of the page are exact: each different itinerary of each flight and each
+//! piece is there once, in order, and nothing else but the heading and the constant texts.
 #![tactic(auto)]
 
+mod flight;
 mod heading;
 mod html;
-mod itineraries;
+mod key;
+mod leg_row;
 mod look;
 mod page;
-mod row;
+mod timetable;
 
 pub use heading::PageHeading;
 pub use page::page_of;

@@ -1,49 +1,33 @@
 //! The whole page.
 
 ghost use Rattle.std.specs.Prelude.{◌≡◌, ◌++◌, IfOk, OnOk};
-ghost use Rattle.ssim_listing.specs.Lines.{flight_name};
-ghost use Rattle.ssim_page.specs.Page.{IsPage, document_end, document_title, letter_of, row, rows};
-ghost use Rattle.ssim_page.specs.Page.{section, section_title, sections, shown_title};
+ghost use Rattle.ssim_page.specs.Page.{bar, document_end, document_title, look, script, shown_title};
+ghost use Rattle.ssim_page.specs.Page.{whole_page};
 
 use crate::heading::{PageHeading, push_title};
-use crate::itineraries::{letter_of, lettered};
-use crate::look::{BOX, SCRIPT, STYLE};
-use crate::row::push_row;
-use ssim_lines::{Printed, push_each};
-use ssim_listing::name_of;
-use ssim_schedule::{FlightPieces, Itinerary};
-use ssim_values::{Airline, Memory, Period};
+use crate::look::{BAR, LOOK, SCRIPT};
+use crate::timetable::push_timetable;
+use ssim_schedule::FlightPieces;
+use ssim_values::Memory;
 use std::alloc::Global;
 
-/// The sections of an airline's flights.
-#[derive(Clone, Copy)]
-struct Sections {
-    alloc: Global,
-    airline: Airline,
-}
-
-/// The different itineraries of a flight, by which its rows have their letters.
-#[derive(Clone, Copy)]
-struct Letters<'a> {
-    found: &'a [Itinerary],
-}
-
-/// The page of the flights of an airline: a section for each flight, in order, with a row for each
-/// of its pieces.
+/// The page of the flights of an airline: an article for each flight, in order, with the legs of
+/// its different itineraries and its periods.
+#[tactic(auto, unfolding(crate::specs::Page::whole_page))]
 pub fn page_of(
     alloc: Global,
     heading: &PageHeading,
     flights: &[FlightPieces],
 ) -> Result<Vec<u8>, Memory>
-    ensures { IfOk result (λ page. IsPage heading.now flights.now page.items) }
+    ensures { IfOk result (λ page. page.items ≡ whole_page heading.now flights.now) }
 {
     let mut page = Vec::new(alloc);
     push_document_title(&mut page, heading)?;
-    page.extend_from_slice(STYLE.as_bytes())?;
+    push_look(&mut page)?;
     push_shown_title(&mut page, heading)?;
-    page.extend_from_slice(BOX.as_bytes())?;
-    push_sections(alloc, &mut page, heading.airline, flights)?;
-    page.extend_from_slice(SCRIPT.as_bytes())?;
+    push_bar(&mut page)?;
+    push_timetable(alloc, &mut page, heading.airline, flights)?;
+    push_script(&mut page)?;
     push_end(&mut page)?;
     Ok(page)
 }
@@ -54,10 +38,19 @@ fn push_document_title(page: &mut Vec<u8>, heading: &PageHeading) -> Result<(), 
     ensures { OnOk result (page.new.items ≡ page.old.items ++ document_title heading.now) }
 {
     page.extend_from_slice(
-        b"<!DOCTYPE html>\n<html lang=\"en\">\n<head>\n<meta charset=\"utf-8\">\n<title>",
+        b"<!DOCTYPE html>\n<html lang=\"en\">\n<head>\n<meta charset=\"utf-8\">\n<meta name=\"viewport\" content=\"width=device-width\">\n<title>",
     )?;
     push_title(page, heading)?;
     page.extend_from_slice(b"</title>\n")?;
+    Ok(())
+}
+
+// Adds the style.
+#[tactic(auto, unfolding(crate::specs::Page::look))]
+fn push_look(page: &mut Vec<u8>) -> Result<(), Memory>
+    ensures { OnOk result (page.new.items ≡ page.old.items ++ look) }
+{
+    page.extend_from_slice(LOOK)?;
     Ok(())
 }
 
@@ -66,9 +59,27 @@ fn push_document_title(page: &mut Vec<u8>, heading: &PageHeading) -> Result<(), 
 fn push_shown_title(page: &mut Vec<u8>, heading: &PageHeading) -> Result<(), Memory>
     ensures { OnOk result (page.new.items ≡ page.old.items ++ shown_title heading.now) }
 {
-    page.extend_from_slice(b"</head>\n<body>\n<h1>")?;
+    page.extend_from_slice(b"</head>\n<body>\n<header><h1>")?;
     push_title(page, heading)?;
     page.extend_from_slice(b"</h1>\n")?;
+    Ok(())
+}
+
+// Adds the links of the views and the search form.
+#[tactic(auto, unfolding(crate::specs::Page::bar))]
+fn push_bar(page: &mut Vec<u8>) -> Result<(), Memory>
+    ensures { OnOk result (page.new.items ≡ page.old.items ++ bar) }
+{
+    page.extend_from_slice(BAR)?;
+    Ok(())
+}
+
+// Adds the script.
+#[tactic(auto, unfolding(crate::specs::Page::script))]
+fn push_script(page: &mut Vec<u8>) -> Result<(), Memory>
+    ensures { OnOk result (page.new.items ≡ page.old.items ++ script) }
+{
+    page.extend_from_slice(SCRIPT)?;
     Ok(())
 }
 
@@ -79,78 +90,4 @@ fn push_end(page: &mut Vec<u8>) -> Result<(), Memory>
 {
     page.extend_from_slice(b"</body>\n</html>\n")?;
     Ok(())
-}
-
-// Adds the section of each flight.
-fn push_sections(
-    alloc: Global,
-    page: &mut Vec<u8>,
-    airline: Airline,
-    flights: &[FlightPieces],
-) -> Result<(), Memory>
-    ensures { OnOk result (page.new.items ≡ page.old.items ++ sections airline flights.now) }
-{
-    push_each(page, &Sections { alloc, airline }, flights)
-}
-
-impl Printed<Sections> for FlightPieces {
-    ghost text = { λ sections flight. section (flight_name sections.airline flight.0) flight.1 };
-
-    fn print(&self, sections: &Sections, page: &mut Vec<u8>) -> Result<(), Memory> {
-        let name = name_of(sections.airline, self.flight());
-        push_section(sections.alloc, page, name.as_slice(), self.pieces())
-    }
-}
-
-// Adds the section of a flight with this designator.
-#[tactic(auto, unfolding(crate::specs::Page::section))]
-fn push_section(
-    alloc: Global,
-    page: &mut Vec<u8>,
-    name: &[u8],
-    pieces: &[(Period, Itinerary)],
-) -> Result<(), Memory>
-    ensures { OnOk result (page.new.items ≡ page.old.items ++ section name.now pieces.now) }
-{
-    push_section_title(page, name)?;
-    push_rows(alloc, page, pieces)?;
-    page.extend_from_slice(b"</table></section>\n")?;
-    Ok(())
-}
-
-// Adds the title of a flight's section.
-#[tactic(auto, unfolding(crate::specs::Page::section_title))]
-fn push_section_title(page: &mut Vec<u8>, name: &[u8]) -> Result<(), Memory>
-    ensures { OnOk result (page.new.items ≡ page.old.items ++ section_title name.now) }
-{
-    page.extend_from_slice(b"<section><h2>")?;
-    page.extend_from_slice(name)?;
-    page.extend_from_slice(b"</h2><table>\n")?;
-    Ok(())
-}
-
-// Adds a row for each piece.
-#[tactic(auto, unfolding(crate::specs::Page::rows))]
-fn push_rows(
-    alloc: Global,
-    page: &mut Vec<u8>,
-    pieces: &[(Period, Itinerary)],
-) -> Result<(), Memory>
-    ensures { OnOk result (page.new.items ≡ page.old.items ++ rows pieces.now) }
-{
-    let found = lettered(alloc, pieces)?;
-    push_each(page, &Letters { found: &found }, pieces)
-}
-
-impl Printed<Letters<'_>> for (Period, Itinerary) {
-    ghost text = { λ letters piece. row (letter_of letters.found.now piece.1) piece };
-
-    fn print(&self, letters: &Letters<'_>, page: &mut Vec<u8>) -> Result<(), Memory> {
-        push_row(
-            page,
-            letter_of(letters.found, &self.1),
-            self.0,
-            self.1.legs(),
-        )
-    }
 }

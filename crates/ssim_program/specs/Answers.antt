@@ -20,7 +20,7 @@ use Rattle.ssim_difference.specs.Lines.{difference_lines}
 use Rattle.ssim_outbox.specs.Comparable.{RefusesCarriers}
 use Rattle.ssim_outbox.specs.Publication.{Publishes, RefusesPublication}
 use Rattle.ssim_outbox.specs.declared.fault.OutboxFault.{OutboxFault}
-use Rattle.ssim_page.specs.Page.{IsPage}
+use Rattle.ssim_page.specs.Page.{whole_page}
 use Rattle.ssim_page.specs.declared.heading.PageHeading.{PageHeading}
 use Rattle.ssim_command_line.specs.Line.{Line, Text, Check, Problems, Tidy, Start, Take, Merge, Withdraw}
 use Rattle.ssim_command_line.specs.Line.{Receive, Texts, Show, History, Calendar, Findings, Export}
@@ -201,7 +201,7 @@ abbrev pub page : Option Files → Text → Answer (List ℕ)
 page files file = do
   desk ← timetable_in files file
   carrier ← carrier_of desk.base.records
-  Finds (IsPage (heading_of carrier) (divided_flights (days_of_desk desk)))
+  Gives (whole_page (heading_of carrier) (divided_flights (days_of_desk desk)))
 
 -- the carrier records are of one airline (else 41) and one time mode (else 40)
 abbrev pub compared : CarrierFields → CarrierFields → Answer (Unit {0})

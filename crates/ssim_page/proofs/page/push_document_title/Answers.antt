@@ -7,6 +7,6 @@ use Rattle.ssim_page.proofs.page.push_document_title.Goals as goal
 pub returns : goal.returns
 unfolding document_title
 returns c =
-    three_joined c.args.page.now.items (codes "<!DOCTYPE html>\n<html lang=\"en\">\n<head>\n<meta charset=\"utf-8\">\n<title>") (title c.args.heading.now) (codes "</title>\n")
+    three_joined c.args.page.now.items (codes "<!DOCTYPE html>\n<html lang=\"en\">\n<head>\n<meta charset=\"utf-8\">\n<meta name=\"viewport\" content=\"width=device-width\">\n<title>") (title c.args.heading.now) (codes "</title>\n")
     c.in_ok-extend_from_slice.ensures.items c.in_ok-push_title.ensures
     c.in_ok-extend_from_slice-2.ensures.items
