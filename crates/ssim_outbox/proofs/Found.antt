@@ -11,7 +11,7 @@ use Rattle.ssim_outbox.specs.Sayable.{ArePartsOf, HaveColumns, IsSayable, IsWhol
 use Rattle.ssim_outbox.specs.internal.Candidates.{AnyMakes}
 use Rattle.ssim_outbox.specs.declared.candidates.Candidate.{Candidate}
 use Rattle.ssim_outbox.specs.declared.candidates.Candidate.TheVariants as candidate
-use Rattle.ssim_outbox.specs.internal.ColumnLines.{same_route}
+use Rattle.ssim_outbox.specs.Route.{same_route}
 use Rattle.ssim_outbox.proofs.Closed.{reached_is_sayable}
 use Rattle.ssim_outbox.proofs.Route.{parts_same_route}
 

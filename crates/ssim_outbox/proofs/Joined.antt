@@ -35,7 +35,8 @@ use Rattle.ssim_outbox.specs.clauses.Messages.{RefusesSubs}
 use Rattle.ssim_outbox.specs.Messages.{Send}
 use Rattle.ssim_outbox.specs.declared.send_fault.SendFault.{SendFault}
 use Rattle.ssim_outbox.specs.declared.send_fault.SendFault.TheVariants as send_fault
-use Rattle.ssim_outbox.specs.Publication.{AreLines, IsPlan, LackReferences, Publishes, RefusesPublication}
+use Rattle.ssim_outbox.specs.Publication.{IsPlan, LackReferences, Publishes, RefusesPublication}
+use Rattle.ssim_outbox.specs.Publication.{publication_lines}
 use Rattle.ssim_outbox.specs.Publication.{dates_of_plan, subs_of_plan}
 use Rattle.ssim_outbox.specs.declared.fault.OutboxFault.{OutboxFault}
 use Rattle.ssim_outbox.specs.internal.Addressed.{Agree, HasPlan, IsAddressed, RefusesMessages}
@@ -207,7 +208,7 @@ module _ (from to : DeskSeen) (word : List ℕ) (heading : MessageValue) (refere
       → ((c : CarrierFields) → airline ≡ c.airline
       → AreResolved c (subs_of_plan airline plan) (dates_of_plan plan))
       → ((left new : FlightNumber → Days) → unsaid ≡ differences left new
-      → AreLines airline reference messages (length plan) left new lines)
+      → lines ≡ publication_lines airline from.base.rows reference messages (length plan) left new)
       → mail ≡ mail_file messages → Publishes from to word lines mail
   published messages lines mail send resolved lines_are mail_is =
       let held = addressed.has in
@@ -260,22 +261,21 @@ module _ (from to : DeskSeen) (word : List ℕ) (heading : MessageValue) (refere
 
   module _ (own : List ℕ) (is : own ≡ airline) where
     -- the messages have sub-messages of the airline, and the rows and lists are given as equal ones
-    pub published_by : (messages : List MessageValue) (lines mail : List ℕ) (told : List MessageValue) (count : ℕ)
-        (listed : List Compared) → told ≡ messages → count ≡ length plan → listed ≡ unsaid
+    pub published_by : (messages : List MessageValue) (lines mail : List ℕ) (rows : List Row)
+        (told : List MessageValue) (count : ℕ) (listed : List Compared)
+        → rows ≡ from.base.rows → told ≡ messages → count ≡ length plan → listed ≡ unsaid
         → Send heading heading.reference.group (subs_of_plan own plan) messages
         → ((c : CarrierFields) → own ≡ c.airline → AreResolved c (subs_of_plan own plan) (dates_of_plan plan))
         → ((left new : FlightNumber → Days) → listed ≡ differences left new
-        → AreLines own reference told count left new lines)
+        → lines ≡ publication_lines own rows reference told count left new)
         → mail ≡ mail_file messages → Publishes from to word lines mail
-    published_by messages lines mail told count listed are counted same send resolved lines_are mail_is =
+    published_by messages lines mail rows told count listed table are counted same send resolved lines_are mail_is =
         published messages lines mail
         (subst (λ (a : List ℕ). Send heading heading.reference.group (subs_of_plan a plan) messages) is send)
         (λ c e. subst (λ (a : List ℕ). AreResolved c (subs_of_plan a plan) (dates_of_plan plan)) is
         (resolved c (is ∙ e)))
-        (λ left new h. subst (λ (a : List ℕ). AreLines a reference messages (length plan) left new lines) is
-        (subst (λ (n : ℕ). AreLines own reference messages n left new lines) counted
-        (subst (λ (ms : List MessageValue). AreLines own reference ms count left new lines) are
-        (lines_are left new (same ∙ h)))))
+        (λ left new h. lines_are left new (same ∙ h)
+        ∙ (λ i. publication_lines (is i) (table i) reference (are i) (counted i) left new))
         mail_is
 
     pub unsent : (refusal : OutboxFault) → RefusesMessages heading (subs_of_plan own plan) refusal

@@ -24,11 +24,9 @@ segment_joined [] a b c d =
 segment_joined (x ∷ t) a b c d = ap (λ (y : List ℕ). x ∷ y) (segment_joined t a b c d)
 
 pub unsaid_joined : (t a b c d : List ℕ)
-    → ((((t ++ a) ++ (b ++ 32 ∷ c)) ++ 32 ∷ []) ++ d) ++ 10 ∷ []
-    ≡ t ++ ((((a ++ b) ++ 32 ∷ c) ++ 32 ∷ d) ++ 10 ∷ [])
-unsaid_joined [] a b c d =
-    ap (λ (x : List ℕ). ((x ++ 32 ∷ []) ++ d) ++ 10 ∷ []) (sym (append_assoc a b (32 ∷ c)))
-    ∙ ap (λ (x : List ℕ). x ++ 10 ∷ []) (append_assoc ((a ++ b) ++ 32 ∷ c) (32 ∷ []) d)
+    → (((t ++ a) ++ (b ++ 32 ∷ c)) ++ d) ++ 10 ∷ []
+    ≡ t ++ ((((a ++ b) ++ 32 ∷ c) ++ d) ++ 10 ∷ [])
+unsaid_joined [] a b c d = ap (λ (x : List ℕ). (x ++ d) ++ 10 ∷ []) (sym (append_assoc a b (32 ∷ c)))
 unsaid_joined (x ∷ t) a b c d = ap (λ (y : List ℕ). x ∷ y) (unsaid_joined t a b c d)
 
 -- a line without its end

@@ -25,8 +25,8 @@ pub mod Settling
 pub mod Weeks
 pub mod SaidAgain
 pub mod MoreActions
-pub mod Marks
-pub mod UnsaidFlights
+pub mod Steady
+pub mod Divided
 pub mod OtherGroup
 pub mod Together
 pub mod TextLines

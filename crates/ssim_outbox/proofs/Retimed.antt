@@ -16,8 +16,9 @@ use Rattle.ssim_base.specs.Timetable.{LegValue, Legs}
 use Rattle.ssim_schedule.specs.Effect.{equipped, fits, has_leg, have_legs, retimed, with_line}
 use Rattle.ssim_schedule.specs.Effect.{with_lines}
 use Rattle.ssim_schedule.specs.MessageColumns.{equipment_of, times_of, with_times}
+use Rattle.ssim_outbox.specs.Route.{same_times}
 use Rattle.ssim_outbox.specs.Sayable.{HaveColumns, equipped_by}
-use Rattle.ssim_outbox.specs.internal.ColumnLines.{HasLine, retimed_columns, same_times}
+use Rattle.ssim_outbox.specs.internal.ColumnLines.{HasLine, retimed_columns}
 use Rattle.ssim_outbox.proofs.Columns.{arrival_timed, departure_timed, equipment_changed}
 use Rattle.ssim_outbox.proofs.Columns.{times_twice}
 use Rattle.ssim_outbox.proofs.OldLegs.{line_long}

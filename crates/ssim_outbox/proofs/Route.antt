@@ -10,7 +10,7 @@ use Rattle.ssim_base.specs.Timetable.{LegValue, Legs}
 use Rattle.ssim_schedule.specs.Effect.{equipped}
 use Rattle.ssim_schedule.specs.MessageColumns.{equipment_of, times_of}
 use Rattle.ssim_outbox.specs.Sayable.{ArePartsOf, HaveColumns, equipped_by}
-use Rattle.ssim_outbox.specs.internal.ColumnLines.{same_route, same_stations}
+use Rattle.ssim_outbox.specs.Route.{same_route, same_stations}
 use Rattle.ssim_outbox.proofs.Closed.{by_long}
 use Rattle.ssim_outbox.proofs.Columns.{arrival_equipped, arrival_timed, departure_equipped}
 use Rattle.ssim_outbox.proofs.Columns.{departure_timed}

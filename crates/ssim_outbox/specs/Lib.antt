@@ -2,6 +2,8 @@ pub mod Reach
 pub mod Sayable
 pub mod Published
 pub mod Acting
+pub mod Route
+pub mod Reason
 pub mod Unsaid
 pub mod Messages
 pub mod DatedSub

@@ -20,7 +20,7 @@ use Rattle.ssim_desk.specs.Desk.{days_of_desk}
 use Rattle.ssim_difference.specs.Differences.{date_count}
 use Rattle.ssim_outbox.specs.Acting.{ActOnTheirDates}
 use Rattle.ssim_outbox.specs.Published.{IsPublished, Leave, NamesDifferences}
-use Rattle.ssim_outbox.specs.Unsaid.{AreUnsaidLines}
+use Rattle.ssim_outbox.specs.Unsaid.{unsaid_lines}
 use Rattle.ssim_outbox.specs.declared.planned_sub.PlannedSub.{PlannedSub}
 use Rattle.ssim_outbox.specs.Comparable.{AreComparable, AreOfOtherAirlines, AreOfOtherModes}
 use Rattle.ssim_outbox.specs.DatedSub.{dated}
@@ -99,13 +99,14 @@ last_line texts subs dates =
     ++ codes " unsaid dates " ++ decimal dates)
 
 -- The lines of messages and of what they leave unsaid: those of the messages, those of the dates on
--- which `after` still differs from the new timetable, and the last line.
-pub record AreLines (airline : List ℕ) (reference : Reference) (messages : List MessageValue)
-    (subs : ℕ) (after new : FlightNumber → Days) (lines : List ℕ) : Type 0 where
-  pub unsaid : List ℕ
-  pub are_unsaid : AreUnsaidLines airline after new unsaid
-  pub lines_are : lines ≡ text_lines reference messages
-      ++ (unsaid ++ last_line (length messages) subs (date_count after new))
+-- which `after` still differs from the new timetable, by the rows of the first desk, and the last
+-- line.
+abbrev pub publication_lines : List ℕ → List Row → Reference → List MessageValue → ℕ
+    → (FlightNumber → Days) → (FlightNumber → Days) → List ℕ
+publication_lines airline rows reference messages subs after new =
+    text_lines reference messages
+    ++ (unsaid_lines airline rows after new
+    ++ last_line (length messages) subs (date_count after new))
 
 -- ---- what is published
 
@@ -126,8 +127,8 @@ pub record Publishes (from to : DeskSeen) (word lines mail : List ℕ) : Type 0 
       (dates_of_plan plan) messages after
   pub is_plan : IsPlan from.base.rows (days_of_desk from) (days_of_desk to) plan
       (days_of_desk after)
-  pub lines_are : AreLines (airline_of from.base.records) reference messages (length plan)
-      (days_of_desk after) (days_of_desk to) lines
+  pub lines_are : lines ≡ publication_lines (airline_of from.base.records) from.base.rows reference
+      messages (length plan) (days_of_desk after) (days_of_desk to)
   pub mail_is : mail ≡ mail_file messages
 
 -- no messages send the sub-messages of a plan under the heading, since the group serial would pass

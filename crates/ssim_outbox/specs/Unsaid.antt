@@ -1,47 +1,45 @@
 -- The lines of what no messages can say: for each flight the periods of the dates on which it still
 -- differs, each with the reason.
-use Rattle.std.specs.Prelude.{◌≡◌, ℕ, ◌≤◌, Bool, ◌&&◌, nat_lt, if◌then◌else◌, List, ◌∷◌, ◌++◌}
-use Rattle.std.specs.Prelude.{length, map, codes}
-use Rattle.std.specs.List.{AllByRecursion, flat_map}
+use Rattle.std.specs.Prelude.{ℕ, if◌then◌else◌, List, [], ◌∷◌, ◌++◌, codes}
+use Rattle.std.specs.List.{flat_map}
+use Rattle.std.specs.Str.{bytes_eq}
 use Rattle.ssim_values.specs.Flight.{FlightNumber}
 use Rattle.ssim_values.specs.Period.{DayRange}
-use Rattle.ssim_periods.specs.Calendar.{day_count}
-use Rattle.ssim_periods.specs.Pieces.{held_on}
+use Rattle.ssim_periods.specs.Days.{each_day}
+use Rattle.ssim_periods.specs.Pieces.{pieces_of}
 use Rattle.ssim_base.specs.Export.{line}
-use Rattle.ssim_base.specs.Timetable.{Days}
+use Rattle.ssim_base.specs.Stations.{Row}
+use Rattle.ssim_base.specs.Timetable.{Days, on_day}
 use Rattle.ssim_listing.specs.Lines.{flight_name, period_text}
 use Rattle.ssim_difference.specs.Differences.{differences, differs_on}
+use Rattle.ssim_outbox.specs.Reason.{reason_words}
 
--- a period of dates of a flight, with the words of a reason
+-- the reason of a day on which a flight differs; no words on other days
+abbrev pub reason_on : List Row → Days → Days → ℕ → List ℕ
+reason_on rows old new n =
+    if differs_on old new n then reason_words rows n (on_day old n) (on_day new n) else []
+
+-- a period with the words of a reason, each of which has a blank before it
 abbrev pub ReasonPiece : Type 0
 ReasonPiece = DayRange × List ℕ
 
--- The pieces give the reasons of a set of dates. Exactly one of them holds each date of the
--- calendar that is in the set, and none holds another date. Each piece has words of a reason.
-pub record GiveReasons (is_in : ℕ → Bool) (pieces : List ReasonPiece) : Type 0 where
-  pub dates : (n : ℕ) → length (held_on pieces n) ≡ (if nat_lt n day_count && is_in n then 1 else 0)
-  pub reasons : AllByRecursion (λ piece. 1 ≤ length piece.1) pieces
+-- The canonical division of the dates on which a flight differs by their reasons. Exactly one piece
+-- holds each of these dates, the one with its reason, and no piece holds another date.
+abbrev pub unsaid_pieces : List Row → Days → Days → List ReasonPiece
+unsaid_pieces rows old new = pieces_of bytes_eq [] (each_day (reason_on rows old new))
 
 -- the line of a piece of a flight with this name: its period, and the reason
 abbrev pub unsaid_line : List ℕ → ReasonPiece → List ℕ
-unsaid_line name piece = line (codes "unsaid " ++ name ++ 32 ∷ period_text piece.0 ++ 32 ∷ piece.1)
-
--- a flight, with its pieces
-abbrev pub ReasonFlight : Type 0
-ReasonFlight = FlightNumber × List ReasonPiece
+unsaid_line name piece = line (codes "unsaid " ++ name ++ 32 ∷ period_text piece.0 ++ piece.1)
 
 -- the lines of the pieces of a flight of an airline
-abbrev pub flight_lines : List ℕ → ReasonFlight → List ℕ
-flight_lines airline flight = flat_map (unsaid_line (flight_name airline flight.0)) flight.1
+abbrev pub flight_lines : List ℕ → FlightNumber → List ReasonPiece → List ℕ
+flight_lines airline flight pieces = flat_map (unsaid_line (flight_name airline flight)) pieces
 
--- The lines of an airline are those of the flights that differ in two timetables, in their order.
--- The pieces of each flight hold exactly the dates on which it differs, each date in one piece. It
--- is not said which words a reason has.
-pub record AreUnsaidLines (airline : List ℕ) (old new : FlightNumber → Days)
-    (lines : List ℕ) : Type 0 where
-  pub flights : List ReasonFlight
-  pub same_flights : map (λ flight. flight.0) flights
-      ≡ map (λ flight. flight.0) (differences old new)
-  pub give_reasons : AllByRecursion
-      (λ flight. GiveReasons (differs_on (old flight.0) (new flight.0)) flight.1) flights
-  pub are_lines : lines ≡ flat_map (flight_lines airline) flights
+-- the lines of an airline: those of the flights that differ in two timetables, in their order
+abbrev pub unsaid_lines : List ℕ → List Row → (FlightNumber → Days) → (FlightNumber → Days)
+    → List ℕ
+unsaid_lines airline rows old new =
+    flat_map
+    (λ flight. flight_lines airline flight.0 (unsaid_pieces rows (old flight.0) (new flight.0)))
+    (differences old new)

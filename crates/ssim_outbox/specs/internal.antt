@@ -2,9 +2,10 @@
 pub mod ColumnLines
 pub mod Candidates
 pub mod Drafts
-pub mod Marked
+pub mod ReasonPieces
 pub mod AddedLines
 pub mod Texts
 pub mod Delivery
 pub mod Headings
 pub mod Addressed
+pub mod LegChanges

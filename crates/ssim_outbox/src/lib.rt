@@ -48,8 +48,10 @@
 //! One sub-message of a plan serves all dates of a period of which the same is said. It is tried on
 //! a copy of the timetable, and kept only if it acts on each date of its period, and makes it;
 //! whatever is left then is said date by date. So nothing rests on how the periods are found. It is
-//! not promised that the sub-messages are the fewest, nor which words a reason has, other than that
-//! there is one.
+//! not promised that the sub-messages are the fewest, nor in which order they come.
+//!
+//! The lines of the unsaid dates are exactly those of a definition: of each flight the canonical
+//! division of its dates by their reasons.
 #![tactic(auto)]
 
 mod address;
@@ -66,12 +68,12 @@ mod heading;
 mod heading_lines;
 mod held_days;
 pub mod laws;
+mod leg_change;
 mod made_dates;
 mod mail_file;
 mod mark;
 mod messages;
 mod new_lines;
-mod obstacle;
 mod order;
 mod period_actions;
 mod period_parts;

@@ -4,7 +4,6 @@ ghost use Rattle.std.specs.Prelude.{◌≡◌, ◌≤◌, ℕ, nat_eq, IfOk};
 ghost use Rattle.std.specs.Cmp.{nat_cmp_total, unsigned_ties};
 ghost use Rattle.std.specs.Ordering.{nat_cmp};
 ghost use Rattle.std.proofs.Common.{eq-eqb, eqb-true};
-ghost use Rattle.ssim_outbox.specs.internal.Marked.{other_mark};
 
 use ssim_periods::{Change, Value};
 use ssim_values::Memory;
@@ -32,13 +31,6 @@ impl Mark {
         Mark {
             number: (place as u64 % 4_294_967_295) as u32 + 1,
         }
-    }
-
-    /// The number of what is in no list.
-    pub(crate) fn unlisted() -> Mark
-        ensures { 1 ≤ result }
-    {
-        Mark { number: u32::MAX }
     }
 
     /// The place in a list of what has this number, counted from 0.
@@ -92,34 +84,6 @@ impl Change<Mark> for Mark {
     fn after(&self, _alloc: Global, _before: &Mark) -> Result<Mark, Memory> {
         Ok(Mark {
             number: self.number,
-        })
-    }
-
-    fn class(&self, _before: &Mark) -> u8 {
-        0
-    }
-}
-
-/// Another number for days that have one. A day without stays without.
-#[derive(Drop)]
-pub(crate) struct OtherMark<'a> {
-    pub(crate) mark: &'a Mark,
-}
-
-impl<'a> Change<Mark> for OtherMark<'a> {
-    ghost outcome = { λ change before. other_mark change.mark.now before };
-
-    ghost class_of = { λ _ _. 0 };
-
-    fn after(&self, _alloc: Global, before: &Mark) -> Result<Mark, Memory> {
-        let other = self.mark;
-        if before.number == 0 || other.number == 0 {
-            return Ok(Mark {
-                number: before.number,
-            });
-        }
-        Ok(Mark {
-            number: other.number,
         })
     }
 

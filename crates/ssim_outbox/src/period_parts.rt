@@ -1,9 +1,12 @@
 //! The parts of a period of one difference, on each of which one thing is said.
 
-ghost use Rattle.std.specs.Prelude.{◌<◌, ◌≤◌};
+ghost use Rattle.std.specs.Prelude.{◌≡◌, ◌<◌, ◌≤◌};
+ghost use Rattle.ssim_values.specs.Calendar.{day_limit};
+ghost use Rattle.ssim_outbox.specs.internal.ReasonPieces.{HaveOneVariation, IsPart, IsSteady};
+ghost use Rattle.ssim_outbox.specs.internal.ReasonPieces.{flies_at, has_station};
 
-use crate::held_days::holds_number;
 use ssim_base::StationRow;
+use ssim_records::LegColumns;
 use ssim_schedule::PlacedLeg;
 use ssim_values::{Day, Period, Station};
 
@@ -14,15 +17,27 @@ pub(crate) fn next_cut(rows: &[StationRow], legs: &[PlacedLeg], first: u16, end:
     requires { first < end }
     ensures from { first < result }
     ensures to { result ≤ end }
+    ensures one { HaveOneVariation rows.now legs.now first result }
 {
     let mut next = end;
     for row in rows {
-        if has_station(legs, row.station()) {
-            next = nearer(row.first().number(), first, next);
-            next = nearer(row.last().number() + 1, first, next);
-        }
+        next = cut_of(row, legs, first, next);
     }
     next
+}
+
+// The first such day of one row.
+fn cut_of(row: &StationRow, legs: &[PlacedLeg], first: u16, end: u16) -> u16
+    requires { first < end }
+    ensures from { first < result }
+    ensures to { result ≤ end }
+    ensures steady { IsSteady legs.now first result row.now }
+{
+    if !has_station(legs, row.station()) {
+        return end;
+    }
+    let next = nearer(row.first().number(), first, end);
+    nearer(row.last().number() + 1, first, next)
 }
 
 // The cut if it lies after the first day and before the end; else the end.
@@ -30,47 +45,38 @@ fn nearer(cut: u16, first: u16, end: u16) -> u16
     requires { first < end }
     ensures from { first < result }
     ensures to { result ≤ end }
+    ensures cut { first < cut → result ≤ cut }
 {
     if first < cut && cut < end { cut } else { end }
 }
 
 // Whether a leg departs from the station or arrives there.
-fn has_station(legs: &[PlacedLeg], station: Station) -> bool {
-    for leg in legs {
-        let columns = leg.columns();
-        if columns.departure_station() == station || columns.arrival_station() == station {
-            return true;
-        }
+fn has_station(legs: &[PlacedLeg], station: Station) -> bool
+    ensures { result ≡ has_station legs.now station }
+{
+    match legs.split_first() {
+        None => false,
+        Some((leg, later)) => flies_at(&leg.columns(), station) || has_station(later, station),
     }
-    false
 }
 
-/// The part of a period from a day number up to an end, from the first to the last day that it
-/// holds; none if it holds none.
-pub(crate) fn part_of(period: &Period, first: u16, end: u16) -> Option<Period> {
-    let first_day = first_held(*period, first, end)?;
-    let last_day = last_held(*period, first, end)?;
-    Period::new(first_day, last_day, period.mask()).ok()
+// Whether a leg with these columns departs from the station or arrives there.
+fn flies_at(columns: &LegColumns, station: Station) -> bool
+    ensures { result ≡ flies_at columns.now station }
+{
+    (columns.departure_station() == station) | (columns.arrival_station() == station)
 }
 
-// The first day from a day number on and up to an end that a period holds.
-fn first_held(period: Period, first: u16, end: u16) -> Option<Day> {
-    for number in first..end {
-        if holds_number(period, number) {
-            return Day::from_number(number);
-        }
+/// The part of a period from a day number up to an end.
+pub(crate) fn part_of(period: &Period, first: u16, end: u16) -> Period
+    requires some { first < end }
+    requires to { end ≤ day_limit }
+    ensures { IsPart period.now first end result }
+{
+    let first = Day::from_number(first).unwrap();
+    let last = Day::from_number(end - 1).unwrap();
+    match Period::new(first, last, period.mask()) {
+        Ok(part) => part,
+        Err(_) => unreachable!(),
     }
-    None
-}
-
-// The last day from a day number on and up to an end that a period holds.
-fn last_held(period: Period, first: u16, end: u16) -> Option<Day> {
-    let mut last = end;
-    while first < last {
-        last -= 1;
-        if holds_number(period, last) {
-            return Day::from_number(last);
-        }
-    }
-    None
 }

@@ -4,7 +4,7 @@ ghost use Rattle.std.specs.Prelude.{◌≡◌, ◌++◌, IfOk, OnOk, length};
 ghost use Rattle.ssim_values.specs.Flight.{FlightNumber};
 ghost use Rattle.ssim_base.specs.Timetable.{Days};
 ghost use Rattle.ssim_difference.specs.Differences.{differences};
-ghost use Rattle.ssim_outbox.specs.Publication.{AreLines, last_line, text_line};
+ghost use Rattle.ssim_outbox.specs.Publication.{last_line, publication_lines, text_line};
 
 use crate::unsaid_dates::unsaid_lines;
 use ssim_base::StationRow;
@@ -33,8 +33,8 @@ pub(crate) fn publication_lines(
     unsaid: &[FlightDifference],
 ) -> Result<Vec<u8>, Memory>
     ensures { (after new : FlightNumber → Days) → unsaid.now ≡ differences after new
-        → IfOk result (λ lines.
-        AreLines airline reference.now messages.now subs after new lines.items) }
+        → IfOk result (λ lines. lines.items
+        ≡ publication_lines airline rows.now reference.now messages.now subs after new) }
 {
     let mut lines = Vec::new(alloc);
     push_each(&mut lines, &TextLines { reference }, messages)?;

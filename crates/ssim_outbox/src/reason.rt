@@ -1,244 +1,175 @@
 //! Why no messages make an itinerary of another.
 
-ghost use Rattle.std.specs.Prelude.{◌≡◌, IfOk, ⊤};
+ghost use Rattle.std.specs.Prelude.{◌≡◌, ◌≤◌, ◌+◌, [], IfOk, length};
+ghost use Rattle.std.specs.Cmp.Lexicographic.{nat_list_cmp_total, slice_cmp};
+ghost use Rattle.std.specs.Ordering.{nat_cmp};
+ghost use Rattle.std.specs.Str.{bytes_eq};
+ghost use Rattle.std.proofs.Common.{sym};
+ghost use Rattle.std.proofs.lemmas.Map.Text.{is_eq-slice_cmp};
+ghost use Rattle.std.proofs.lemmas.Slice.Eq.{bytes_eq-Decides};
+ghost use Rattle.ssim_outbox.specs.Reason.{are_numbered, are_numbered_from, or_other};
+ghost use Rattle.ssim_outbox.specs.Reason.{reason_words, words_of_legs};
 
-use crate::obstacle::Obstacle;
-use crate::retimed_legs::{have_same, have_same_route, have_same_times};
-use crate::said_days::SaidOfDay;
-use crate::segment_tails::{are_given, leg_lines};
-use crate::wanted_leg::WantedLeg;
+use crate::leg_change::words_of_legs;
+use crate::retimed_legs::have_same_route;
 use ssim_base::StationRow;
 use ssim_difference::Difference;
-use ssim_lines::written;
-use ssim_listing::push_sequence;
-use ssim_records::leg_fields::{AIRCRAFT_TYPE, BOOKING_DESIGNATORS, CONFIGURATION, SERVICE_TYPE};
-use ssim_schedule::{PlacedLeg, same_tails};
+use ssim_periods::{Change, Value};
+use ssim_schedule::PlacedLeg;
 use ssim_values::{Day, Memory};
 use std::alloc::Global;
-use std::io::Write;
+use std::cmp::Ordering;
 use std::marker::Model;
 
 /// The most leg lines of a sub-message.
 const MOST_LEGS: usize = 20;
 
-/// The most segment lines of a sub-message.
-const MOST_SEGMENTS: usize = 99;
-
-/// Why no messages make an itinerary of another: words with a blank between two of them.
+/// Why no messages make an itinerary of another: words, each with a blank before it. No words if
+/// there is nothing to say.
 #[derive(Drop)]
 pub(crate) struct UnsaidReason {
-    words: Vec<u8>,
+    /// None if there are no words.
+    words: Option<Vec<u8>>,
 }
 
 impl Model for UnsaidReason {
     ghost use Rattle.std.specs.Prelude.{List, ℕ};
+    ghost use Rattle.ssim_outbox.specs.internal.ReasonPieces.{words_in};
 
     ghost Value = { List ℕ };
 
-    ghost view = { λ r. r.words.items };
+    ghost view = { λ r. words_in r.words };
 }
 
 impl UnsaidReason {
-    /// The reason with these words.
-    pub(crate) fn of(words: Vec<u8>) -> UnsaidReason
-        ensures { result ≡ words.items }
+    /// The reason why no messages make the new itinerary of a difference of the old one, by these
+    /// rows of a station table.
+    pub(crate) fn of(
+        alloc: Global,
+        rows: &[StationRow],
+        day: Day,
+        difference: &Difference,
+    ) -> Result<UnsaidReason, Memory>
+        ensures { IfOk result (λ reason. reason
+            ≡ reason_words rows.now day difference.now.old difference.now.new) }
     {
-        UnsaidReason { words }
+        let words = words_of(
+            alloc,
+            rows,
+            day,
+            difference.old.legs(),
+            difference.new.legs(),
+        )?;
+        Ok(UnsaidReason { words: Some(words) })
     }
 
     /// Its words.
     pub(crate) fn words(&self) -> &[u8]
         ensures { result.now ≡ self.now }
     {
-        &self.words
+        match &self.words {
+            None => &[],
+            Some(words) => words.as_slice(),
+        }
     }
 }
 
-impl SaidOfDay for UnsaidReason {
-    ghost Sayable = { λ _. ⊤ };
+impl Value for UnsaidReason {
+    ghost nothing = { [] };
 
-    fn of_day(
-        alloc: Global,
-        rows: &[StationRow],
-        day: Day,
-        difference: &Difference,
-    ) -> Result<Option<Self>, Memory> {
-        let old = difference.old.legs();
-        let words = words_of(alloc, rows, day, old, difference.new.legs())?;
-        Ok(Some(UnsaidReason { words }))
+    ghost alike = { bytes_eq };
+
+    ghost compared = { slice_cmp nat_cmp };
+
+    fn empty() -> Self {
+        UnsaidReason { words: None }
     }
 
-    fn is_same(&self, other: &Self) -> bool {
+    fn is_empty(&self) -> bool {
+        self.words().is_empty()
+    }
+
+    fn same(&self, other: &Self) -> bool {
         self.words() == other.words()
     }
+
+    fn order(&self, other: &Self) -> Ordering {
+        self.words().cmp(other.words())
+    }
+
+    fn copy(&self, alloc: Global) -> Result<Self, Memory> {
+        Ok(UnsaidReason {
+            words: Some(Vec::from_slice(alloc, self.words())?),
+        })
+    }
+
+    ghost exact = { bytes_eq-Decides };
+
+    ghost total = { nat_list_cmp_total };
+
+    ghost told_apart = { λ x y. sym (is_eq-slice_cmp x y) };
 }
 
-// The words of what messages cannot give to new legs on a day: for each leg with obstacles its leg
-// sequence and these; or `sequence` alone, if the legs have another route and no messages make one
-// with these leg sequences.
+// A day gets the reason.
+impl Change<UnsaidReason> for UnsaidReason {
+    ghost outcome = { λ reason _. reason };
+
+    ghost class_of = { λ _ _. 0 };
+
+    fn after(&self, alloc: Global, _before: &UnsaidReason) -> Result<UnsaidReason, Memory> {
+        self.copy(alloc)
+    }
+
+    fn class(&self, _before: &UnsaidReason) -> u8 {
+        0
+    }
+}
+
+// The words of the reason why no messages make new legs of old ones on a day.
 fn words_of(
     alloc: Global,
     rows: &[StationRow],
     day: Day,
     old: &[PlacedLeg],
     new: &[PlacedLeg],
-) -> Result<Vec<u8>, Memory> {
-    let mut words = Vec::new(alloc);
-    if !have_same_route(old, new) && !are_numbered(new) {
-        add_obstacle(&mut words, Obstacle::Sequence)?;
-        return Ok(words);
+) -> Result<Vec<u8>, Memory>
+    ensures { IfOk result
+        (λ words. words.items ≡ reason_words rows.now day old.now new.now) }
+{
+    if have_same_route(old, new) {
+        return or_other(words_of_legs(alloc, rows, day, old, new)?);
     }
-    add_legs(alloc, &mut words, rows, day, kept_legs(old, new), new)?;
+    if are_numbered(new) {
+        return or_other(words_of_legs(alloc, rows, day, &[], new)?);
+    }
+    Ok(Vec::from_slice(alloc, b" sequence")?)
+}
+
+// The words; `other` if there are none.
+fn or_other(words: Vec<u8>) -> Result<Vec<u8>, Memory>
+    ensures { IfOk result (λ all. all.items ≡ or_other words.items) }
+{
+    let mut words = words;
     if words.is_empty() {
-        add_obstacle(&mut words, Obstacle::Other)?;
+        words.extend_from_slice(b" other")?;
     }
     Ok(words)
 }
 
 // Whether there are up to twenty legs, whose leg sequences are 1, 2 and so on.
-fn are_numbered(legs: &[PlacedLeg]) -> bool {
-    if legs.len() > MOST_LEGS {
-        return false;
-    }
-    for (place, leg) in legs.iter().enumerate() {
-        if leg.sequence() as usize != place + 1 {
-            return false;
-        }
-    }
-    true
+fn are_numbered(legs: &[PlacedLeg]) -> bool
+    ensures { result ≡ are_numbered legs.now }
+{
+    legs.len() <= MOST_LEGS && are_numbered_from(1, legs)
 }
 
-// The old legs, if the new ones have their leg sequences and stations: other equipment and other
-// times are enough then. None otherwise.
-fn kept_legs<'a>(old: &'a [PlacedLeg], new: &[PlacedLeg]) -> &'a [PlacedLeg] {
-    if have_same_route(old, new) { old } else { &[] }
-}
-
-// Adds the words of the legs, whose old legs are these, or none.
-fn add_legs(
-    alloc: Global,
-    words: &mut Vec<u8>,
-    rows: &[StationRow],
-    day: Day,
-    old: &[PlacedLeg],
-    new: &[PlacedLeg],
-) -> Result<(), Memory> {
-    let Some((first, _)) = new.split_first() else {
-        return Ok(());
-    };
-    let lines = leg_lines(alloc, new)?;
-    let has_other_equipment = have_other_equipment(old, new);
-    let mut segments: usize = 0;
-    for (place, leg) in new.iter().enumerate() {
-        let wanted = WantedLeg {
-            leg,
-            first,
-            old: old.get(place),
-            has_other_equipment,
-            has_other_times: has_other_times(old.get(place), leg),
-        };
-        segments = segments.saturating_add(leg.tails().len());
-        let mut found = Vec::new(alloc);
-        wanted.add_fields(&mut found, rows, day)?;
-        let is_room = leg.tails().is_empty() || segments <= MOST_SEGMENTS;
-        let are_given = is_room && are_given(&lines, place, leg.tails());
-        add_segments(&mut found, old.get(place), leg, are_given)?;
-        if wanted.has_other_times && old.get(place).is_some() && is_second(new, place, leg) {
-            found.push(Obstacle::Second)?;
-        }
-        add_leg(words, leg.sequence(), &found)?;
-    }
-    Ok(())
-}
-
-// Whether legs have other equipment than the old ones, or there are no old ones.
-fn have_other_equipment(old: &[PlacedLeg], new: &[PlacedLeg]) -> bool {
-    for (place, leg) in new.iter().enumerate() {
-        let is_other = match old.get(place) {
-            None => true,
-            Some(before) => has_other_equipment(before, leg),
-        };
-        if is_other {
-            return true;
-        }
-    }
-    false
-}
-
-// Whether a leg has other equipment than before.
-fn has_other_equipment(old: &PlacedLeg, new: &PlacedLeg) -> bool {
-    let old = old.columns();
-    let new = new.columns();
-    !(have_same(&old, &new, SERVICE_TYPE)
-        && have_same(&old, &new, AIRCRAFT_TYPE)
-        && have_same(&old, &new, BOOKING_DESIGNATORS)
-        && have_same(&old, &new, CONFIGURATION))
-}
-
-// Whether a leg has other times than before, or there was none.
-fn has_other_times(old: Option<&PlacedLeg>, new: &PlacedLeg) -> bool {
-    match old {
+// Whether the leg sequences of up to twenty legs are a number and so on.
+fn are_numbered_from(number: u8, legs: &[PlacedLeg]) -> bool
+    requires { number + length legs.now ≤ 21 }
+    ensures { result ≡ are_numbered_from number legs.now }
+{
+    match legs.split_first() {
         None => true,
-        Some(old) => !have_same_times(&old.columns(), &new.columns()),
+        Some((leg, later)) => leg.sequence() == number && are_numbered_from(number + 1, later),
     }
-}
-
-// Adds the segment data of a leg, if they are neither as before nor as messages give them.
-fn add_segments(
-    found: &mut Vec<Obstacle>,
-    old: Option<&PlacedLeg>,
-    new: &PlacedLeg,
-    are_given: bool,
-) -> Result<(), Memory> {
-    let is_said = match old {
-        None => are_given,
-        Some(old) => same_tails(old.tails(), new.tails()),
-    };
-    if !is_said {
-        found.push(Obstacle::Segments)?;
-    }
-    Ok(())
-}
-
-// Whether a leg with a place comes after one between the same stations.
-fn is_second(legs: &[PlacedLeg], place: usize, leg: &PlacedLeg) -> bool {
-    let columns = leg.columns();
-    for (other, earlier) in legs.iter().enumerate() {
-        if other >= place {
-            return false;
-        }
-        let before = earlier.columns();
-        if before.departure_station() == columns.departure_station()
-            && before.arrival_station() == columns.arrival_station()
-        {
-            return true;
-        }
-    }
-    false
-}
-
-// Adds the leg sequence of a leg and what messages cannot give to it, if there is anything.
-fn add_leg(words: &mut Vec<u8>, sequence: u8, found: &[Obstacle]) -> Result<(), Memory> {
-    if found.is_empty() {
-        return Ok(());
-    }
-    add_blank(words)?;
-    push_sequence(words, sequence)?;
-    for obstacle in found {
-        add_obstacle(words, *obstacle)?;
-    }
-    Ok(())
-}
-
-fn add_obstacle(words: &mut Vec<u8>, obstacle: Obstacle) -> Result<(), Memory> {
-    add_blank(words)?;
-    written(write!(words, "{obstacle}"))
-}
-
-// Adds a blank after a word.
-fn add_blank(words: &mut Vec<u8>) -> Result<(), Memory> {
-    if !words.is_empty() {
-        words.push(b' ')?;
-    }
-    Ok(())
 }

@@ -1,83 +1,54 @@
-//! The periods of the days of a flight of which the reasons are the same.
+//! The periods of the dates of a flight that have the same reason.
 
-ghost use Rattle.std.specs.Prelude.{ℕ, ◌≤◌, Bool, IfOk, OnOk, length};
-ghost use Rattle.ssim_outbox.specs.Unsaid.{GiveReasons};
-ghost use Rattle.ssim_outbox.specs.internal.Marked.{AreMarked, HaveReasons, is_among};
+ghost use Rattle.std.specs.Prelude.{◌≡◌, ℕ, List, IfOk, OnOk};
+ghost use Rattle.ssim_periods.specs.Days.{each_day};
+ghost use Rattle.ssim_outbox.specs.internal.ReasonPieces.{division, reason_put};
 
-use crate::mark::{Mark, OtherMark};
+use crate::period_parts::{next_cut, part_of};
 use crate::reason::UnsaidReason;
-use crate::said_days::{SaidPeriods, said_periods};
 use ssim_base::StationRow;
 use ssim_difference::Difference;
 use ssim_periods::Periods;
 use ssim_values::{Memory, Period};
 use std::alloc::Global;
 
-/// The periods of the canonical division of the dates on which a flight differs by the reasons why
-/// no messages make its new itineraries, each with its reason. The pieces are those of the flight's
-/// difference. Whatever reasons are found, each of their dates is in one period.
+/// The canonical division of the dates on which a flight differs by the reasons why no messages make
+/// its new itineraries, each period with its reason. The pieces are those of the flight's
+/// difference.
 pub(crate) fn reason_pieces(
     alloc: Global,
     rows: &[StationRow],
     pieces: &[(Period, Difference)],
 ) -> Result<Vec<(Period, UnsaidReason)>, Memory>
-    ensures { IfOk result (λ found. GiveReasons (is_among pieces.now) found.items) }
+    ensures { IfOk result (λ found. found.items ≡ division rows.now pieces.now) }
 {
-    let found: SaidPeriods<UnsaidReason> = said_periods(alloc, rows, pieces)?;
-    let mut marks = marked(alloc, pieces)?;
-    mark_others(&mut marks, &found.periods)?;
-    let periods = marks.pieces()?;
-    with_reasons(alloc, &found.said, &periods)
-}
-
-// One mark for all dates of the pieces.
-fn marked(alloc: Global, pieces: &[(Period, Difference)]) -> Result<Periods<Mark>, Memory>
-    ensures { IfOk result (λ marks. AreMarked (is_among pieces.now) marks.days) }
-{
-    let mut marks: Periods<Mark> = Periods::new(alloc);
+    let mut reasons: Periods<UnsaidReason> = Periods::new(alloc);
     for piece in pieces {
-        marks.replace(&piece.0, &Mark::unlisted())?;
+        put_reasons(alloc, rows, &mut reasons, &piece.0, &piece.1)?;
     }
-    Ok(marks)
+    reasons.pieces()
 }
 
-// Gives days that are marked the marks of periods.
-fn mark_others(marks: &mut Periods<Mark>, periods: &[(Period, Mark)]) -> Result<(), Memory>
-    ensures { (is_in : ℕ → Bool) → AreMarked is_in marks.old.days
-        → OnOk result (AreMarked is_in marks.new.days) }
+// Gives each day of a period its reason, in parts on which the UTC variations of the new legs stay
+// the same, and so the reason.
+fn put_reasons(
+    alloc: Global,
+    rows: &[StationRow],
+    reasons: &mut Periods<UnsaidReason>,
+    period: &Period,
+    difference: &Difference,
+) -> Result<(), Memory>
+    ensures { (before : ℕ → List ℕ) → reasons.old.days ≡ each_day before → OnOk result
+        (reasons.new.days ≡ each_day (reason_put rows.now (period.now, difference.now) before)) }
 {
-    for piece in periods {
-        marks.replace(&piece.0, &OtherMark { mark: &piece.1 })?;
+    let end = period.last().number() + 1;
+    let mut first = period.first().number();
+    while first < end {
+        let next = next_cut(rows, difference.new.legs(), first, end);
+        let part = part_of(period, first, next);
+        let reason = UnsaidReason::of(alloc, rows, part.first(), difference)?;
+        reasons.replace(&part, &reason)?;
+        first = next;
     }
     Ok(())
-}
-
-// The periods of marks, each with the reason of its mark.
-fn with_reasons(
-    alloc: Global,
-    reasons: &[UnsaidReason],
-    periods: &[(Period, Mark)],
-) -> Result<Vec<(Period, UnsaidReason)>, Memory>
-    ensures { IfOk result (λ found. HaveReasons periods.now found.items) }
-{
-    let mut found = Vec::new(alloc);
-    for piece in periods {
-        let reason = reason_of(alloc, reasons, &piece.1)?;
-        found.push((piece.0, reason))?;
-    }
-    Ok(found)
-}
-
-// The reason with the number of a mark; `other` if there is none.
-fn reason_of(alloc: Global, reasons: &[UnsaidReason], mark: &Mark) -> Result<UnsaidReason, Memory>
-    ensures { IfOk result (λ reason. 1 ≤ length reason) }
-{
-    let mut words = Vec::new(alloc);
-    if let Some(reason) = reasons.get(mark.place()) {
-        words.extend_from_slice(reason.words())?;
-    }
-    if words.is_empty() {
-        words.extend_from_slice(b"other")?;
-    }
-    Ok(UnsaidReason::of(words))
 }

@@ -8,8 +8,8 @@ ghost use Rattle.ssim_columns.specs.clauses.Leg.{is_own};
 ghost use Rattle.ssim_columns.specs.Leg.{leg_columns};
 ghost use Rattle.ssim_text.specs.Grammar.{IsLegLine};
 ghost use Rattle.ssim_text.specs.declared.leg.LegLine.{LegLine};
-ghost use Rattle.ssim_outbox.specs.internal.ColumnLines.{HasLine, retimed_columns, same_route};
-ghost use Rattle.ssim_outbox.specs.internal.ColumnLines.{same_stations, same_times};
+ghost use Rattle.ssim_outbox.specs.Route.{same_route, same_stations, same_times};
+ghost use Rattle.ssim_outbox.specs.internal.ColumnLines.{HasLine, retimed_columns};
 
 use crate::new_lines::push_leg_line;
 use ssim_columns::Field;
@@ -89,7 +89,7 @@ fn have_same_stations(old: &PlacedLeg, new: &PlacedLeg) -> bool
 }
 
 /// Whether the times and the date variations of two legs are the same.
-#[tactic(auto, unfolding(crate::specs::internal::ColumnLines::same_times))]
+#[tactic(auto, unfolding(crate::specs::Route::same_times))]
 pub(crate) fn have_same_times(old: &LegColumns, new: &LegColumns) -> bool
     ensures { result ≡ same_times old.now new.now }
 {

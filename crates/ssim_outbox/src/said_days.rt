@@ -116,9 +116,8 @@ fn put_parts<T: SaidOfDay>(
     let mut first = period.first().number();
     while first < end {
         let next = next_cut(rows, difference.new.legs(), first, end);
-        if let Some(part) = part_of(period, first, next) {
-            put_part(alloc, rows, days, &part, difference)?;
-        }
+        let part = part_of(period, first, next);
+        put_part(alloc, rows, days, &part, difference)?;
         first = next;
     }
     Ok(())

@@ -6,8 +6,8 @@ ghost use Rattle.ssim_values.specs.Flight.{FlightNumber};
 ghost use Rattle.ssim_base.specs.Timetable.{Days};
 ghost use Rattle.ssim_listing.specs.Lines.{period_text};
 ghost use Rattle.ssim_difference.specs.Differences.{differences};
-ghost use Rattle.ssim_outbox.specs.Unsaid.{AreUnsaidLines, unsaid_line};
-ghost use Rattle.ssim_outbox.specs.internal.AddedLines.{AddFlights, AddsFlight};
+ghost use Rattle.ssim_outbox.specs.Unsaid.{unsaid_line, unsaid_lines};
+ghost use Rattle.ssim_outbox.specs.internal.AddedLines.{divided_lines};
 
 use crate::reason::UnsaidReason;
 use crate::reason_pieces::reason_pieces;
@@ -34,7 +34,7 @@ pub fn unsaid_lines(
     unsaid: &[FlightDifference],
 ) -> Result<Vec<u8>, Memory>
     ensures { (old new : FlightNumber → Days) → unsaid.now ≡ differences old new
-        → IfOk result (λ lines. AreUnsaidLines airline old new lines.items) }
+        → IfOk result (λ lines. lines.items ≡ unsaid_lines airline rows.now old new) }
 {
     let mut lines = Vec::new(alloc);
     push_flights(alloc, &mut lines, airline, rows, unsaid)?;
@@ -49,7 +49,8 @@ fn push_flights(
     rows: &[StationRow],
     unsaid: &[FlightDifference],
 ) -> Result<(), Memory>
-    ensures { OnOk result (AddFlights airline unsaid.now lines.old.items lines.new.items) }
+    ensures { OnOk result (lines.new.items
+        ≡ lines.old.items ++ flat_map (divided_lines airline rows.now) unsaid.now) }
 {
     for flight in unsaid {
         push_flight(alloc, lines, airline, rows, flight)?;
@@ -65,7 +66,8 @@ fn push_flight(
     rows: &[StationRow],
     flight: &FlightDifference,
 ) -> Result<(), Memory>
-    ensures { OnOk result (AddsFlight airline flight.now lines.old.items lines.new.items) }
+    ensures { OnOk result (lines.new.items
+        ≡ lines.old.items ++ divided_lines airline rows.now flight.now) }
 {
     let pieces = reason_pieces(alloc, rows, flight.pieces())?;
     let name = name_of(airline, flight.flight());
@@ -81,7 +83,6 @@ impl Printed<Named<'_>> for (Period, UnsaidReason) {
     fn print(&self, named: &Named<'_>, lines: &mut Vec<u8>) -> Result<(), Memory> {
         lines.extend_from_slice(b"unsaid ")?;
         push_name(lines, named.name, self.0)?;
-        lines.push(b' ')?;
         lines.extend_from_slice(self.1.words())?;
         lines.push(b'\n')?;
         Ok(())

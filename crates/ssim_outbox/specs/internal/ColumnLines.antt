@@ -1,8 +1,6 @@
 -- The lines of messages that the columns of legs and tails have.
 use Rattle.std.specs.Prelude.{◌≡◌, ℕ, ◌+◌, ◌%◌, if◌then◌else◌, List, [], ◌∷◌}
-use Rattle.std.specs.Prelude.{◌&&◌, Bool, true, false, nat_eq}
 use Rattle.std.specs.List.{AllZip, flat_map}
-use Rattle.std.specs.Str.{bytes_eq}
 use Rattle.ssim_values.specs.Clock.{clock_text}
 use Rattle.ssim_columns.specs.Leg.{leg_columns}
 use Rattle.ssim_columns.specs.Segment.{new_tail}
@@ -13,6 +11,7 @@ use Rattle.ssim_text.specs.declared.action.NewLegs.{NewLegs}
 use Rattle.ssim_text.specs.declared.leg.LegLine.{LegLine}
 use Rattle.ssim_text.specs.declared.segment.SegmentLine.{SegmentLine}
 use Rattle.ssim_base.specs.Timetable.{LegValue, Legs}
+use Rattle.ssim_outbox.specs.Route.{same_times}
 
 -- ---- leg lines
 
@@ -29,15 +28,6 @@ pub record HasLine (line : LegLine) (d : List ℕ) : Type 0 where
   pub variations : leg_columns 193 194 d
       ≡ (48 + line.departure.variation % 10) ∷ (48 + line.arrival.variation % 10) ∷ []
 
--- whether the times and the date variations of two legs are the same
-unfoldable pub same_times : List ℕ → List ℕ → Bool
-same_times d e =
-    (((bytes_eq (leg_columns 40 43 d) (leg_columns 40 43 e)
-    && bytes_eq (leg_columns 44 47 d) (leg_columns 44 47 e))
-    && bytes_eq (leg_columns 58 61 d) (leg_columns 58 61 e))
-    && bytes_eq (leg_columns 62 65 d) (leg_columns 62 65 e))
-    && bytes_eq (leg_columns 193 194 d) (leg_columns 193 194 e)
-
 -- the columns of the legs whose times are not those of the old legs
 abbrev pub retimed_columns : Legs → Legs → List (List ℕ)
 retimed_columns [] new = []
@@ -45,20 +35,6 @@ retimed_columns (old ∷ olds) [] = []
 retimed_columns (old ∷ olds) (new ∷ news) =
     if same_times old.columns new.columns then retimed_columns olds news
     else new.columns ∷ retimed_columns olds news
-
--- whether two legs have the same leg sequence and the same stations
-abbrev pub same_stations : LegValue → LegValue → Bool
-same_stations old new =
-    (nat_eq old.sequence new.sequence
-    && bytes_eq (leg_columns 37 39 old.columns) (leg_columns 37 39 new.columns))
-    && bytes_eq (leg_columns 55 57 old.columns) (leg_columns 55 57 new.columns)
-
--- whether two itineraries have such legs, one after another
-abbrev pub same_route : Legs → Legs → Bool
-same_route [] [] = true
-same_route [] (new ∷ news) = false
-same_route (old ∷ olds) [] = false
-same_route (old ∷ olds) (new ∷ news) = same_stations old new && same_route olds news
 
 -- ---- equipment
 

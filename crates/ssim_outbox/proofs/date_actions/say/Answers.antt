@@ -4,7 +4,7 @@ use Rattle.ssim_text.specs.declared.action.Action.{Action}
 use Rattle.ssim_base.specs.clauses.ItineraryLaws.{exact_itinerary}
 use Rattle.ssim_outbox.specs.Reach.{Leads}
 use Rattle.ssim_outbox.specs.Sayable.{HaveColumns}
-use Rattle.ssim_outbox.specs.internal.ColumnLines.{same_route}
+use Rattle.ssim_outbox.specs.Route.{same_route}
 use Rattle.ssim_outbox.proofs.Found.{change_found, new_found, none_tested}
 use Rattle.ssim_outbox.proofs.Found.{route_found}
 use Rattle.ssim_outbox.proofs.date_actions.say.Goals as goal

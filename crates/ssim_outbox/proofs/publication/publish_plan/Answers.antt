@@ -16,7 +16,8 @@ returns-clause-ok c = λ to word addressed has.
     c.args.plan.unsaid.items addressed has c.airline-airline.result
     (c.airline-airline.ensures ∙ ap (λ (b : BaseSeen). airline_of b.records) c.base.ensures)
     c.in_ok-messages.messages.items c.in_ok-lines.lines.items c.in_ok-mail.mail.items
-    c.deref.result.now c.len-count.result c.deref-2.result.now c.deref.ensures.value counted
+    c.rows-rows.result.now c.deref.result.now c.len-count.result c.deref-2.result.now
+    (c.rows-rows.ensures ∙ ap (λ (b : BaseSeen). b.rows) c.base-2.ensures) c.deref.ensures.value counted
     c.deref-2.ensures.value c.in_ok-messages.ensures.ok c.in_ok-messages.ensures.resolved c.in_ok-lines.ensures
     (c.in_ok-mail.ensures.ok ∙ ap (λ (ms : List MessageValue). mail_file ms) c.deref-3.ensures.value)
 

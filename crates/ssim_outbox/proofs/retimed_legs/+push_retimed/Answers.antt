@@ -5,7 +5,8 @@ use Rattle.std.specs.List.{AllZip}
 use Rattle.std.proofs.lemmas.Result.{on_ok_weaker}
 use Rattle.ssim_text.specs.declared.leg.LegLine.{LegLine}
 use Rattle.ssim_base.specs.Timetable.{Legs}
-use Rattle.ssim_outbox.specs.internal.ColumnLines.{HasLine, retimed_columns, same_times}
+use Rattle.ssim_outbox.specs.Route.{same_times}
+use Rattle.ssim_outbox.specs.internal.ColumnLines.{HasLine, retimed_columns}
 use Rattle.ssim_outbox.proofs.Zipped.{first, none}
 use Rattle.ssim_outbox.proofs.retimed_legs.+push_retimed.Goals as goal
 

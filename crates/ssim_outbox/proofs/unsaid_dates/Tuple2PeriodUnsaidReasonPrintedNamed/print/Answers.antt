@@ -12,9 +12,8 @@ returns c =
     let dates = name ++ 32 ∷ period_text piece.0 in
     let begun = c.in_ok-push_name.ensures
     ∙ ap (λ (x : List ℕ). x ++ dates) c.in_ok-extend_from_slice.ensures.items in
-    let blank = c.in_ok-push.ensures.items ∙ ap (λ (x : List ℕ). x ++ 32 ∷ []) begun in
-    let text = c.in_ok-extend_from_slice-2.ensures.items ∙ ap (λ (x : List ℕ). x ++ words) blank in
-    c.in_ok-push-2.ensures.items
+    let text = c.in_ok-extend_from_slice-2.ensures.items ∙ ap (λ (x : List ℕ). x ++ words) begun in
+    c.in_ok-push.ensures.items
     ∙ ap (λ (x : List ℕ). x ++ 10 ∷ []) text
     ∙ unsaid_joined old (codes "unsaid ") name (period_text piece.0) words
     ∙ ap (λ (said : List ℕ). old ++ unsaid_line name (piece.0, said)) c.words.ensures
