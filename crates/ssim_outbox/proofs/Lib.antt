@@ -44,6 +44,7 @@ pub mod MailLines
 pub mod PlainLines
 pub mod MailRead
 pub mod MailTexts
+pub mod Receiving
 pub mod SameBase
 pub mod Headings
 pub mod Joined

@@ -19,3 +19,4 @@ pub mod SameBase
 pub mod Comparable
 pub mod Heading
 pub mod Publication
+pub mod Received

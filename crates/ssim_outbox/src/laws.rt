@@ -3,6 +3,7 @@
 
 ghost use Rattle.ssim_outbox.specs.Sayable.{MessagesReach};
 ghost use Rattle.ssim_outbox.specs.MailFile.{JoinedTextsRead, MailboxesRead, SentAreMail};
+ghost use Rattle.ssim_outbox.specs.Received.{PublishedIsReceived};
 ghost use Rattle.ssim_outbox.specs.SameBase.{AllIsReached, NothingIsUnsaid};
 ghost use Rattle.ssim_outbox.specs.SendLaws.{FullDatesResolve, SerialsRise, SubsAreJoined};
 // The worked examples, which are computed: a false one is an error in this file.
@@ -39,6 +40,13 @@ pub fn mailboxes_read()
     ensures read { MailboxesRead }
     ensures joined { JoinedTextsRead }
     ensures sent { SentAreMail }
+{}
+
+/// A desk with the base and the messages of the first desk of a publication takes each text that a
+/// mailbox has in the mail of the publication as new, unless memory runs out. It then holds what the
+/// publication says, and has on each date what the publication says.
+pub fn published_is_received()
+    ensures { PublishedIsReceived }
 {}
 
 /// If two desks have one base, and the second holds each message that the first holds, then on each
