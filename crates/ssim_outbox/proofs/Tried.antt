@@ -1,7 +1,7 @@
 -- What `say` tries makes the new itinerary: the columns of its legs have the lines of the actions,
 -- which do it.
 use Rattle.std.proofs.Common.{◌≡◌, ◌⊎◌, ◌++◌, ◌∙◌, ℕ, List, [], ◌∷◌, map, length, refl, sym, ap, subst}
-use Rattle.std.proofs.Common.{inl, inr, append_assoc, append-nil, Option, IfSome, take, drop}
+use Rattle.std.proofs.Common.{inl, inr, append_assoc, Option, IfSome, take, drop}
 use Rattle.std.proofs.Common.{take-append-drop}
 use Rattle.std.specs.List.{AllZip}
 use Rattle.ssim_text.specs.Grammar.{IsEquipment}
@@ -37,11 +37,6 @@ add_times lines before first after h r = record {
       ∙ append_assoc before (Tim (take 20 lines) ∷ []) r.more;
   times = (take 20 lines, drop 20 lines, sym (take-append-drop 20 lines), refl, r.times);
 }
-
-pub no_times : (lines : List LegLine) (before : List Action) → lines ≡ []
-    → AddsTimes lines before before
-no_times lines before h =
-    record { more = []; added = sym (append-nil before); times = h }
 
 retime_all : (lines : List LegLine) (legs : Legs) → HaveColumns legs → Fit lines legs
     → (retime lines legs).0 ≡ with_lines lines legs
