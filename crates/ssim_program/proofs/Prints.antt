@@ -17,11 +17,13 @@ use Rattle.ssim_records.specs.declared.record.Record.TheVariants.{Header, Carrie
 use Rattle.ssim_held.specs.Entries.{DeskSeen, Entry, map_of}
 use Rattle.ssim_held.specs.File.{IsDeskFile, NoTwoDesks}
 use Rattle.ssim_base.specs.Timetable.{days_of, itinerary}
+use Rattle.ssim_schedule.specs.FlightPieces.{divided_flights}
+use Rattle.ssim_page.specs.Page.{whole_page}
 use Rattle.ssim_desk.specs.DateSteps.{steps_on}
 use Rattle.ssim_desk.specs.Desk.{days_of_desk, entry_lines}
 use Rattle.ssim_desk.specs.Meaning.{found_by, left_by}
 use Rattle.ssim_command_line.specs.Line.{Text, Texts, Withdraw, Show, History, Board, Calendar}
-use Rattle.ssim_command_line.specs.Line.{Check, Findings, Export, Listing, Problems, Tidy}
+use Rattle.ssim_command_line.specs.Line.{Check, Findings, Export, Listing, Page, Problems, Tidy}
 use Rattle.ssim_program.specs.Acts.{Act, Print, printed_by}
 use Rattle.ssim_program.specs.Desks.{desk_in, flight_date}
 use Rattle.ssim_program.specs.Files.{Files}
@@ -31,7 +33,7 @@ use Rattle.ssim_program.specs.Made.{IsExport, file_limit, problem_line, summary_
 use Rattle.ssim_program.specs.print.PrintedLine.{printed_text}
 use Rattle.ssim_program.specs.declared.print.printed_line.PrintedLine.TheVariants as printed_line
 use Rattle.ssim_command_line.specs.declared.command_line.ListForm.{ListForm}
-use Rattle.ssim_program.specs.Answers.{chosen}
+use Rattle.ssim_program.specs.Answers.{chosen, heading_of}
 use Rattle.ssim_program.specs.Messages.{SpellEach, flights_in, message_texts, messages_on}
 use Rattle.ssim_program.specs.Offices.{DiffPrintsTheSame, IsSameFile, PrintsTheSame}
 use Rattle.ssim_program.specs.Timetables.{BeginsAs, HasCarrier, ReadsAsDesk, ReadsTimetable, timetable_kind}
@@ -198,6 +200,13 @@ module _ (no_two : NoTwoDesks) where
       first_of : Designator → List Designator → Designator
       first_of none [] = none
       first_of none (d ∷ ds) = d
+
+  pub page_same : SameBytesSameBase → PrintsTheSame Page
+  page_same same_base files others name another acts again same (bytes, (desk, read, (carrier, has, is)), all) (more, (other, reads, (theirs, has_too, are)), all_too) =
+      let one = same_timetable same_base files others name another desk other same read reads in
+      let same_carrier = one_carrier desk.base.records other.base.records carrier theirs (ap (λ (b : BaseSeen). b.records) one.0) has has_too in
+      prints_same acts again bytes more all all_too
+      (is ∙ (λ i. whole_page (heading_of (same_carrier i)) (divided_flights (days_of_desk (seen (one.0 i) (one.1 i))))) ∙ sym are)
 
   pub diff_same : SameBytesSameBase → DiffPrintsTheSame
   diff_same same_base files others from to here there acts again same same_too (bytes, (old, read, (new, reads, (mine, has, (theirs, is_carrier, (_, alike, is))))), all) (more, (first, read_too, (second, reads_too, (ours, has_too, (other, are_carrier, (_, alike_too, are))))), all_too) =

@@ -2,7 +2,7 @@
 
 ghost use Rattle.std.specs.Prelude.{List};
 ghost use Rattle.ssim_command_line.specs.Line.{Board, Calendar, Check, Export, Findings, History, Show};
-ghost use Rattle.ssim_command_line.specs.Line.{Text, Texts, Withdraw, Listing, Problems, Tidy};
+ghost use Rattle.ssim_command_line.specs.Line.{Text, Texts, Withdraw, Listing, Page, Problems, Tidy};
 ghost use Rattle.ssim_command_line.specs.declared.command_line.ListForm.{ListForm};
 ghost use Rattle.ssim_program.specs.Again.{TidiesOnce};
 ghost use Rattle.ssim_program.specs.Calls.{CommandsAreEvents};
@@ -70,9 +70,9 @@ pub fn nothing_taken_is_lost()
 /// Of two equal desk files `texts`, `show`, `history`, `list`, `board`, `calendar`, `findings` and
 /// `export` print the same: the messages, each flight on each date, which message did what to it,
 /// the periods or the dates of each flight, what is on a board, its calendar, what each sub-message
-/// found, and the chapter 7 data set, byte for byte. So do `list`, `board` and `calendar` of two equal
-/// data sets, `diff` of two pairs of equal files, and `withdraw` of two equal desk files: what became
-/// of each reference.
+/// found, and the chapter 7 data set, byte for byte. So do `list`, `board`, `calendar` and `page` of
+/// two equal desk files or data sets, `diff` of two pairs of equal files, and `withdraw` of two equal
+/// desk files: what became of each reference.
 pub fn equal_files_print_the_same()
     ensures texts { (flights : List Text) → PrintsTheSame (λ file. Texts file flights) }
     ensures withdraw { (out : Text) (references : List Text)
@@ -83,6 +83,7 @@ pub fn equal_files_print_the_same()
     ensures list { (form : ListForm) (flights : List Text)
         → PrintsTheSame (λ file. Listing form file flights) }
     ensures calendar { (flight : Text) → PrintsTheSame (λ file. Calendar file flight) }
+    ensures page { PrintsTheSame Page }
     ensures diff { DiffPrintsTheSame }
     ensures findings { PrintsTheSame Findings }
     ensures export { PrintsTheSame Export }

@@ -1,5 +1,5 @@
 use Rattle.ssim_program.proofs.Prints.{board_same, calendar_same, diff_same, export_same, findings_same}
-use Rattle.ssim_program.proofs.Prints.{history_same, list_same, show_same, texts_same, withdraw_same}
+use Rattle.ssim_program.proofs.Prints.{history_same, list_same, page_same, show_same, texts_same, withdraw_same}
 use Rattle.ssim_program.proofs.laws.equal_files_print_the_same.Goals as goal
 
 pub returns : goal.returns
@@ -14,6 +14,7 @@ returns c =
       list = list_same no_two one_base;
       board = board_same no_two one_base;
       calendar = calendar_same no_two one_base;
+      page = page_same no_two one_base;
       diff = diff_same no_two one_base;
       findings = findings_same no_two;
       export = export_same no_two;
