@@ -227,7 +227,7 @@ def block_lines(designator, cells, monday, weeks, first, last):
     for weekday, digit in enumerate(WEEKDAYS):
         dates = [day + weekday * DAY for day in mondays]
         lines.append(f"{digit} " + "".join(cells.get(day, "." if first <= day <= last else " ") for day in dates))
-    return [line.rstrip() for line in lines] + [""]
+    return [line.rstrip(" ") for line in lines] + [""]
 
 
 def legend_lines(days, cells):
@@ -276,7 +276,7 @@ def flight_lines(days):
 
 def page_row(leg):
     """The line of `show`, and four fields as words."""
-    words = (leg.at(*field).rstrip().replace(" ", ".") or "." for field in ((53, 54), (71, 72), (76, 95), (173, 192)))
+    words = (leg.at(*field).rstrip(" ").replace(" ", ".") or "." for field in ((53, 54), (71, 72), (76, 95), (173, 192)))
     return escaped(" ".join([leg.line, *words]))
 
 
