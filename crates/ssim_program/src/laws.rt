@@ -67,28 +67,33 @@ pub fn nothing_taken_is_lost()
     offices_agree();
 }
 
-/// Of two equal desk files `texts`, `show`, `history`, `list`, `board`, `calendar`, `findings` and
-/// `export` print the same: the messages, each flight on each date, which message did what to it,
-/// the periods or the dates of each flight, what is on a board, its calendar, what each sub-message
-/// found, and the chapter 7 data set, byte for byte. So do `list`, `board`, `calendar` and `page` of
-/// two equal desk files or data sets, `diff` of two pairs of equal files, and `withdraw` of two equal
-/// desk files: what became of each reference.
+/// Of two equal desk files `texts`, `show`, `history`, `findings` and `export` print the same: the
+/// messages, each flight on each date, which message did what to it, what each sub-message found, and
+/// the chapter 7 data set, byte for byte. So does `withdraw`: what became of each reference.
 pub fn equal_files_print_the_same()
     ensures texts { (flights : List Text) → PrintsTheSame (λ file. Texts file flights) }
     ensures withdraw { (out : Text) (references : List Text)
         → PrintsTheSame (λ file. Withdraw file out references) }
     ensures show { (flight date : Text) → PrintsTheSame (λ file. Show file flight date) }
     ensures history { (flight date : Text) → PrintsTheSame (λ file. History file flight date) }
+    ensures findings { PrintsTheSame Findings }
+    ensures export { PrintsTheSame Export }
+{
+    one_reference();
+    no_two_desks_have_one_file();
+}
+
+/// Of two equal desk files, or of two equal data sets, `list`, `board`, `calendar` and `page` print the
+/// same: the periods or the dates of each flight, what is on a board, a calendar, and the page, byte
+/// for byte. So does `diff` of two pairs of equal files.
+pub fn equal_timetables_print_the_same()
     ensures board { (station date : Text) → PrintsTheSame (λ file. Board file station date) }
     ensures list { (form : ListForm) (flights : List Text)
         → PrintsTheSame (λ file. Listing form file flights) }
     ensures calendar { (flight : Text) → PrintsTheSame (λ file. Calendar file flight) }
     ensures page { PrintsTheSame Page }
     ensures diff { DiffPrintsTheSame }
-    ensures findings { PrintsTheSame Findings }
-    ensures export { PrintsTheSame Export }
 {
-    one_reference();
     no_two_desks_have_one_file();
     same_bytes_same_base();
 }
