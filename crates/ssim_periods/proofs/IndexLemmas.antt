@@ -5,7 +5,8 @@ use Rattle.std.specs.BTreeMap.{BTreeMap, get, Updates}
 use Rattle.std.specs.List.{list_any}
 use Rattle.std.specs.Ordering.{is_eq, on}
 use Rattle.std.specs.declared.cmp.Ordering.{Ordering}
-use Rattle.ssim_periods.specs.internal.Gather.{index_of, ArePlaced}
+use Rattle.ssim_periods.specs.Distinct.{index_of}
+use Rattle.ssim_periods.specs.internal.Gather.{ArePlaced}
 use Rattle.ssim_periods.proofs.PieceLaw.{alike-turned}
 
 none-within : (found : Option ℕ) → option_map suc found ≡ None → found ≡ None

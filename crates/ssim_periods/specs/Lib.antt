@@ -3,6 +3,7 @@ pub mod Days
 pub mod Cover
 pub mod Pieces
 pub mod CommonDays
+pub mod Distinct
 pub mod clauses
 pub mod examples
 pub mod internal

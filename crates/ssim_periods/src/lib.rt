@@ -44,6 +44,7 @@ mod weekday_bits;
 
 pub use common_days::{are_apart, meets};
 pub use cover::union::union;
+pub use distinct_values::DistinctValues;
 pub use period_days::number_of_days;
 pub use periods::Periods;
 pub use periods::pieces::{

@@ -1,10 +1,11 @@
 -- Distinct values in the order in which rows have them, and their numbers.
-use Rattle.std.specs.Prelude.{◌≡◌, ℕ, suc, Bool, ◌||◌, if◌then◌else◌, Option, Some, None}
-use Rattle.std.specs.Prelude.{option_map, List, [], ◌∷◌, ◌++◌, slice_get}
+use Rattle.std.specs.Prelude.{◌≡◌, ℕ, Bool, ◌||◌, if◌then◌else◌, Option, List, [], ◌∷◌, ◌++◌}
+use Rattle.std.specs.Prelude.{slice_get}
 use Rattle.std.specs.BTreeMap.{BTreeMap, get}
 use Rattle.std.specs.List.{list_any}
 use Rattle.std.specs.Ordering.{on}
 use Rattle.std.specs.declared.cmp.Ordering.{Ordering}
+use Rattle.ssim_periods.specs.Distinct.{index_of}
 
 -- the known values, followed by the list's new values: those that are not empty and not yet known
 abbrev pub gathered : {V : Type 0} → (V → V → Bool) → V → List V → List V → List V
@@ -16,11 +17,6 @@ gathered alike nothing known (v ∷ values) =
 -- the value with a number: number 0 is the empty value, number n is the n-th of the values
 abbrev pub numbered : {V : Type 0} → V → List V → ℕ → Option V
 numbered nothing values n = slice_get (nothing ∷ values) n
-
--- the index of a value among others; none if it is not among them
-abbrev pub index_of : {V : Type 0} → (V → V → Bool) → List V → V → Option ℕ
-index_of alike [] v = None
-index_of alike (x ∷ values) v = if alike x v then Some 0 else option_map suc (index_of alike values v)
 
 -- a map has the index of each of the values at its key, and nothing at other keys
 abbrev pub ArePlaced : {K V : Type 0} → (V → V → Bool) → (V → V → Ordering) → (K → V) → List V

@@ -1,7 +1,7 @@
 -- The value comes last, and its key gets the number of values before it.
 use Rattle.std.proofs.Common.{◌≡◌, ◌∷◌, ◌++◌, [], length, map, ap, ◌∙◌, arith, refl}
 use Rattle.std.proofs.lemmas.List.{length-map, map-append}
-use Rattle.ssim_periods.specs.internal.Gather.{index_of}
+use Rattle.ssim_periods.specs.Distinct.{index_of}
 use Rattle.ssim_periods.proofs.IndexLemmas.{placed-push}
 use Rattle.ssim_periods.proofs.distinct_values.DistinctValues.add.Goals as goal
 

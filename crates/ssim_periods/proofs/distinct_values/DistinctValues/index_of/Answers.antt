@@ -2,7 +2,7 @@
 use Rattle.std.proofs.Common.{◌≡◌, ◌<◌, ◌^◌, ℕ, Option, Some, None, IfSome, map, refl, ap, sym, ◌∙◌, arith, rules}
 use Rattle.std.proofs.lemmas.List.{length-map}
 use Rattle.ssim_periods.proofs.IndexLemmas.{index_of-within}
-use Rattle.ssim_periods.specs.internal.Gather.{index_of}
+use Rattle.ssim_periods.specs.Distinct.{index_of}
 use Rattle.ssim_periods.proofs.distinct_values.DistinctValues.index_of.Goals as goal
 
 pub returns-clause-value : goal.returns-clause-value
