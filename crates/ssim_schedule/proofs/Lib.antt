@@ -17,3 +17,5 @@ pub mod Applied
 pub mod InOrder
 pub mod Writable
 pub mod TailsOrder
+pub mod Changed
+pub mod NamedFlights

@@ -1,9 +1,14 @@
 //! The itinerary of each flight on each date.
 
-ghost use Rattle.std.specs.Prelude.{◌≡◌, ℕ, ◌<◌, ◌≤◌, [], All, Contains, IfOk, slice_index_or};
+ghost use Rattle.std.specs.Prelude.{◌≡◌, ℕ, ◌<◌, ◌≤◌, nat_eq, if◌then◌else◌, false, [], length, All};
+ghost use Rattle.std.specs.Prelude.{Contains, IfOk, OnErr, OnOk, slice_index_or};
 ghost use Rattle.std.specs.List.Sorted.{IsStrictlyIncreasing};
 ghost use Rattle.ssim_values.specs.Calendar.{weekday};
-ghost use Rattle.ssim_base.specs.Timetable.{Above, on_day};
+ghost use Rattle.ssim_values.specs.Flight.{FlightNumber, IsFlight};
+ghost use Rattle.ssim_periods.specs.Calendar.{day_count, holds};
+ghost use Rattle.ssim_periods.specs.Days.{changed_on, each_day};
+ghost use Rattle.ssim_base.specs.ReadBack.{place_of};
+ghost use Rattle.ssim_base.specs.Timetable.{Above, Legs, is_among, on_day};
 
 // The worked examples, which are computed: a false one is an error in this file.
 ghost use Rattle.ssim_schedule.specs.examples.Blocks;
@@ -12,8 +17,8 @@ ghost use Rattle.ssim_schedule.specs.examples.Effects;
 use crate::itinerary::Itinerary;
 use crate::leg::PlacedLeg;
 use crate::timetable::flight_table::{FlightTable, place};
-use ssim_periods::Periods;
-use ssim_values::{Day, Flight, Memory};
+use ssim_periods::{Change, Periods};
+use ssim_values::{Day, Flight, Memory, Period};
 use std::marker::Model;
 
 /// The itinerary of each flight on each date. On each date the legs of a flight rise by leg
@@ -74,6 +79,42 @@ impl Schedule {
         ensures { IfOk result (λ itineraries. itineraries.days ≡ days_in self.now flight.now) }
     {
         self.table.copy_of(*flight)
+    }
+
+    /// The flights that were named, by number and suffix. Each other flight flies on no date.
+    pub fn flights(&self) -> Result<Vec<Flight>, Memory>
+        ensures exist { IfOk result (λ flights. All IsFlight flights.items) }
+        ensures others { IfOk result (λ flights. (g : FlightNumber) → IsFlight g
+            → is_among flights.items g ≡ false
+            → days_in self.now g ≡ each_day (λ _. [])) }
+
+        // Each flight has a value for each day.
+        ensures whole { (g : FlightNumber) → IsFlight g → length (days_in self.now g) ≡ day_count }
+    {
+        self.table.flights()
+    }
+
+    /// Replaces the itinerary of a flight on each date of a period by the outcome of a change. If
+    /// memory is out, nothing has changed.
+    ///
+    /// The cost is finding the flight, and changing the ranges of the flight that the period
+    /// touches, as in `Periods::apply`. The flight's periods are copied if a copy of the schedule
+    /// shares them.
+    pub fn change<C: Change<Itinerary>>(
+        &mut self,
+        flight: Flight,
+        period: &Period,
+        change: &C,
+    ) -> Result<(), Memory>
+        requires in_order { (legs : Legs) → Above 0 legs → Above 0 (C.outcome change.now legs) }
+        ensures days { OnOk result ((g : FlightNumber)
+            → days_in self.new g ≡ (if nat_eq (place_of flight) (place_of g)
+            then changed_on (holds period.now) (C.outcome change.now) 0 (days_in self.old g)
+            else days_in self.old g)) }
+        ensures err { OnErr result (self.new ≡ self.old) }
+    {
+        self.table.change(flight, period, change)?;
+        Ok(())
     }
 
     /// The same itineraries with the same cuts. The copy and the original share the flights in

@@ -1,6 +1,7 @@
 //! The periods of each flight, in blocks of flights that copies of a schedule share.
 
-ghost use Rattle.std.specs.Prelude.{◌≡◌, ℕ, ◌<◌, ◌≤◌, nat_eq, if◌then◌else◌, [], true, replicate};
+ghost use Rattle.std.specs.Prelude.{◌≡◌, ℕ, ◌<◌, ◌≤◌, nat_eq, if◌then◌else◌, [], ◌++◌, true};
+ghost use Rattle.std.specs.Prelude.{map, replicate};
 ghost use Rattle.std.specs.Prelude.{All, Contains, IfOk, IfErr, IfSome, IfNone, OnOk, OnErr};
 ghost use Rattle.std.specs.Prelude.{slice_index_or};
 ghost use Rattle.std.specs.List.Sorted.{IsStrictlyIncreasing};
@@ -182,6 +183,14 @@ impl FlightTable {
         Ok(())
     }
 
+    /// The flights that have an entry, by number and suffix.
+    pub(crate) fn flights(&self) -> Result<Vec<Flight>, Memory>
+        ensures flights { IfOk result (λ flights. flights.items ≡ map (λ f. f.flight) self.now) }
+        ensures exist { IfOk result (λ flights. All IsFlight flights.items) }
+    {
+        flights_of(self.alloc, &self.blocks)
+    }
+
     /// The allocator of its entries.
     pub(crate) fn allocator(&self) -> Global {
         self.alloc
@@ -256,6 +265,13 @@ impl Block {
         self.flights
     }
 
+    // The entries, by number and suffix of their flights.
+    fn entries(&self) -> &[FlightPeriods]
+        ensures { result.now ≡ self.now }
+    {
+        &self.flights
+    }
+
     // Whether the first entry is the flight's.
     fn begins_with(&self, flight: Flight) -> bool
         ensures { result ≡ true → IsAt self.now flight 0 }
@@ -310,6 +326,32 @@ fn copies(alloc: Global, flights: &[FlightPeriods]) -> Result<Vec<FlightPeriods>
         })?;
     }
     Ok(copies)
+}
+
+// The flights of the entries of all blocks.
+fn flights_of(alloc: Global, blocks: &[CopyOnWrite<Block>]) -> Result<Vec<Flight>, Memory>
+    ensures flights { IfOk result
+        (λ flights. flights.items ≡ map (λ f. f.flight) (all_entries blocks.now)) }
+    ensures exist { IfOk result (λ flights. All IsFlight flights.items) }
+{
+    let mut flights = Vec::new(alloc);
+    for block in blocks {
+        push_flights(&mut flights, block.get().entries())?;
+    }
+    Ok(flights)
+}
+
+fn push_flights(flights: &mut Vec<Flight>, entries: &[FlightPeriods]) -> Result<(), Memory>
+    ensures flights { OnOk result
+        (flights.new.items ≡ flights.old.items ++ map (λ f. f.flight) entries.now) }
+    ensures exist { OnOk result (All IsFlight flights.old.items → All IsFlight flights.new.items) }
+{
+    for entry in entries {
+        // No effect at run time. The proof reads from this use that the flight is one.
+        let _ = place(entry.flight);
+        flights.push(entry.flight)?;
+    }
+    Ok(())
 }
 
 // The index of a flight's block.
