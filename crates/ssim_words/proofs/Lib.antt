@@ -1,0 +1,3 @@
+pub mod NamedFlights
+pub mod OneFlight
+pub mod EachRead
