@@ -1,0 +1,2 @@
+-- Definitions that private functions alone cite, so nobody has to believe them.
+pub mod Changes
