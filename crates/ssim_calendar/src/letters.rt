@@ -1,12 +1,11 @@
 //! The different values of the days, and a letter for each day.
 
-ghost use Rattle.std.specs.Prelude.{◌≡◌, ◌++◌, Some, slice_index_or, IfOk, OnOk};
+ghost use Rattle.std.specs.Prelude.{◌≡◌, ◌++◌, Some, slice_index_or, IfOk, OnOk, map};
 ghost use Rattle.ssim_periods.specs.Days.{each_day};
-ghost use Rattle.ssim_calendar.specs.Letters.{cell, cells, different, has_value, if_new, is_new};
-ghost use Rattle.ssim_calendar.specs.Letters.{letter_at, place_of};
+ghost use Rattle.ssim_calendar.specs.Letters.{cell, cells, different, if_new, letter_at, place_of};
 
 use crate::week::day_at;
-use ssim_periods::{Periods, Value};
+use ssim_periods::{DistinctValues, Periods, Value};
 use ssim_values::Memory;
 use std::alloc::Global;
 
@@ -32,48 +31,56 @@ impl<V: Value> Calendar<V> {
     {
         let values = values_of(alloc, days)?;
         let cells = cells_of(alloc, days, &values)?;
+        let values = copies(alloc, values.values())?;
         Ok(Calendar { values, cells })
     }
 }
 
 // The different values of the days.
-fn values_of<V: Value>(alloc: Global, days: &Periods<V>) -> Result<Vec<V>, Memory>
-    ensures { IfOk result (λ values. values.items ≡ different V.alike V.nothing days.now.days) }
+fn values_of<'a, V: Value>(
+    alloc: Global,
+    days: &'a Periods<V>,
+) -> Result<DistinctValues<'a, V>, Memory>
+    ensures { IfOk result (λ values. values ≡ different V.alike V.nothing days.now.days) }
 {
-    let mut values = Vec::new(alloc);
+    let mut values = DistinctValues::new(alloc);
     for number in 0..DAYS {
-        add_new(alloc, &mut values, days.at(day_at(number)))?;
+        add_new(&mut values, days.at(day_at(number)))?;
     }
     Ok(values)
 }
 
-/// Adds a copy of the value, if it is not the empty one and none of these.
-pub fn add_new<V: Value>(alloc: Global, values: &mut Vec<V>, value: &V) -> Result<(), Memory>
-    ensures { OnOk result (values.new.items ≡ values.old.items
-        ++ if_new V.alike V.nothing values.old.items (Some value.now)) }
+/// Adds the value, if it is not the empty one and none of these. The only error is out of memory.
+pub fn add_new<'a, V: Value>(values: &mut DistinctValues<'a, V>, value: &'a V) -> Result<(), Memory>
+    ensures { OnOk result (values.new
+        ≡ values.old ++ if_new V.alike V.nothing values.old (Some value.now)) }
 {
-    if is_new(values, value) {
-        values.push(value.copy(alloc)?)?;
+    if value.is_empty() {
+        return Ok(());
     }
-    Ok(())
+    match values.index_of(value) {
+        Some(_) => Ok(()),
+        None => values.add(value),
+    }
 }
 
-// Whether the value is not the empty one, and none of these.
-fn is_new<V: Value>(values: &[V], value: &V) -> bool
-    ensures { result ≡ is_new V.alike V.nothing values.now value.now }
+// Copies of values.
+fn copies<V: Value>(alloc: Global, values: &[&V]) -> Result<Vec<V>, Memory>
+    ensures { IfOk result (λ copies. copies.items ≡ map (λ value. value.now) values.now) }
 {
-    !value.is_empty() && !has_value(values, value)
-}
-
-// Whether one of the values is this one.
-fn has_value<V: Value>(values: &[V], value: &V) -> bool
-    ensures { result ≡ has_value V.alike values.now value.now }
-{
-    values.iter().any(|other| other.same(value))
+    let mut copies = Vec::with_capacity(alloc, values.len())?;
+    for value in values {
+        copies.push(value.copy(alloc)?)?;
+    }
+    Ok(copies)
 }
 
 // The letter of each day.
-fn cells_of<V: Value>(alloc: Global, days: &Periods<V>, values: &[V]) -> Result<Vec<u8>, Memory>
+fn cells_of<'a, V: Value>(
+    alloc: Global,
+    days: &'a Periods<V>,
+    values: &DistinctValues<'a, V>,
+) -> Result<Vec<u8>, Memory>
     ensures { IfOk result (λ cells. cells.items ≡ each_day
         (λ n. cell V.alike V.nothing values.now (slice_index_or days.now.days n V.nothing))) }
 {
@@ -85,7 +92,7 @@ fn cells_of<V: Value>(alloc: Global, days: &Periods<V>, values: &[V]) -> Result<
 }
 
 // The letter of a value, or a full stop for the empty one.
-fn cell_of<V: Value>(values: &[V], value: &V) -> u8
+fn cell_of<'a, V: Value>(values: &DistinctValues<'a, V>, value: &'a V) -> u8
     ensures { result ≡ cell V.alike V.nothing values.now value.now }
 {
     if value.is_empty() {
@@ -95,11 +102,13 @@ fn cell_of<V: Value>(values: &[V], value: &V) -> u8
 }
 
 /// The place of a value among these; their number if it is none of them.
-pub fn place_of<V: Value>(values: &[V], value: &V) -> usize
+pub fn place_of<'a, V: Value>(values: &DistinctValues<'a, V>, value: &'a V) -> usize
     ensures { result ≡ place_of V.alike values.now value.now }
 {
-    let found = values.iter().position(|other| other.same(value));
-    found.unwrap_or(values.len())
+    match values.index_of(value) {
+        Some(index) => index,
+        None => values.values().len(),
+    }
 }
 
 /// The letter of the value at a place among the different ones: A to Z, then a to z, and # for all

@@ -24,5 +24,5 @@ mod week;
 pub use legend::push_legend;
 pub use letters::{Calendar, add_new, letter_at, place_of};
 pub use picture::push_picture;
-pub use ssim_periods::Value;
+pub use ssim_periods::{DistinctValues, Value};
 pub use ssim_values::Memory;
