@@ -6,6 +6,7 @@
 //!   the periods on which it does.
 //! - [`date_count`]: on how many dates flights differ.
 //! - [`difference_lines`]: the flights that differ as lines, with the old and the new legs.
+//!   [`push_difference`] adds the lines of one difference.
 //! - [`laws`]: each date that differs is in exactly one period of its flight, and no other date is
 //!   in any; no flight differs exactly if the timetables are equal.
 //!
@@ -28,6 +29,6 @@ mod timetable_difference;
 pub use dates::date_count;
 pub use difference::Difference;
 pub use flight_difference::FlightDifference;
-pub use lines::difference_lines;
+pub use lines::{difference_lines, push_difference};
 pub use ssim_values::Memory;
 pub use timetable_difference::differences;

@@ -114,8 +114,10 @@ impl Printed<ChangedFlight<'_>> for (Period, Difference) {
     }
 }
 
-// Adds the lines of the old and the new itinerary.
-fn push_difference(
+/// Adds the lines of the old and the new itinerary of a difference: by leg sequence, after `- ` a leg
+/// that is only in the old one, after `+ ` one that is only in the new one, and after two blanks one
+/// that is in both.
+pub fn push_difference(
     alloc: Global,
     lines: &mut Vec<u8>,
     difference: &Difference,

@@ -12,7 +12,7 @@ use Rattle.std.specs.declared.cmp.Ordering.TheVariants.{Less, Equal, Greater}
 use Rattle.std.proofs.lemmas.Map.Text.{is_eq-slice_cmp}
 use Rattle.std.proofs.lemmas.Slice.Eq.{bytes_eq-Decides}
 use Rattle.ssim_base.specs.Timetable.{LegValue}
-use Rattle.ssim_listing.specs.internal.Groups.{GroupSeen, grown}
+use Rattle.ssim_listing.specs.clauses.Groups.{GroupSeen, grown}
 
 bytes_either : (a b : List ℕ) (t : Bool) → bytes_eq a b ≡ t → bytes_eq b a ≡ t
 bytes_either a b true e = (bytes_eq-Decides b a).1 (sym ((bytes_eq-Decides a b).0 e))

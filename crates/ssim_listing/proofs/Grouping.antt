@@ -1,4 +1,4 @@
--- The groups of legs with the same line: with one more leg, and what they say of each leg.
+-- The groups of legs with the same text: with one more leg, and what they say of each leg.
 use Rattle.std.proofs.Common.{◌≡◌, ◌∙◌, ◌&&◌, ◌||◌, Bool, true, false, not, cond, ℕ, List, [], ◌∷◌, ◌++◌}
 use Rattle.std.proofs.Common.{Option, Some, None, refl, sym, ap, ap₂, true≢false, option_map, get_or, is_some, unwrap_or, append-nil}
 use Rattle.std.specs.List.{find, flat_map, list_any}
@@ -12,9 +12,9 @@ use Rattle.ssim_base.specs.clauses.ItineraryLaws.{exact_itinerary}
 use Rattle.ssim_base.specs.Timetable.{LegValue, Legs}
 use Rattle.ssim_listing.specs.LegText.{leg_text}
 use Rattle.ssim_listing.specs.Lines.{legs_of, period_text, piece_lines}
-use Rattle.ssim_listing.specs.Marks.{is_like, is_like_one, mark_text, marked_line}
-use Rattle.ssim_listing.specs.internal.Groups.{GroupSeen, group_of, grouped_line, grouped_lines, grown}
-use Rattle.ssim_listing.specs.internal.Groups.{has_line, is_mixed, with_leg}
+use Rattle.ssim_listing.specs.Marks.{is_like_by, is_like_one, is_like_one_by, mark_text, marked_line}
+use Rattle.ssim_listing.specs.clauses.Groups.{GroupSeen, group_of, grown, has_text, is_mixed, with_leg}
+use Rattle.ssim_listing.specs.internal.GroupedLines.{grouped_line, grouped_lines}
 
 -- ---- tests
 
@@ -34,11 +34,11 @@ or_false : (b : Bool) → (b || false) ≡ b
 or_false true = refl
 or_false false = refl
 
-or_left : (a b : Bool) → a ≡ true → (a || b) ≡ true
+pub or_left : (a b : Bool) → a ≡ true → (a || b) ≡ true
 or_left true b e = refl
 or_left false b e = absurd (true≢false (sym e))
 
-or_right : (a b : Bool) → b ≡ true → (a || b) ≡ true
+pub or_right : (a b : Bool) → b ≡ true → (a || b) ≡ true
 or_right true b e = refl
 or_right false b e = e
 
@@ -47,7 +47,7 @@ one_leg : (a b : LegValue) → same_leg a b ≡ true → a ≡ b
 one_leg a b e =
     ap (λ (legs : Legs). get_or legs 0 a) ((exact_itinerary (a ∷ []) (b ∷ [])).0 (and_true (same_leg a b) e))
 
-same_self : (a : LegValue) → same_leg a a ≡ true
+pub same_self : (a : LegValue) → same_leg a a ≡ true
 same_self a = first_true (same_leg a a) ((exact_itinerary (a ∷ []) (a ∷ [])).1 refl)
 
 different : (a b : LegValue) (t : Bool) → same_leg a b ≡ false → same_leg b a ≡ t → t ≡ false
@@ -63,10 +63,6 @@ same_text a b e = (bytes_eq-Decides a b).0 e
 
 text_self : (a : List ℕ) → bytes_eq a a ≡ true
 text_self a = (bytes_eq-Decides a a).1 refl
-
-like : (a b : LegValue) → same_leg a b ≡ false → leg_text a ≡ leg_text b → is_like a b ≡ true
-like a b differ texts =
-    ap₂ (λ (x y : Bool). not x && y) differ ((bytes_eq-Decides (leg_text a) (leg_text b)).1 texts)
 
 -- ---- legs that are found
 
@@ -119,66 +115,91 @@ module _ (p : LegValue → Bool) where
 
 -- ---- one leg more
 
-none_like : (legs : Legs) (leg : LegValue) (text : List ℕ) → find (has_line text) legs ≡ None
-    → leg_text leg ≡ text → is_like_one legs leg ≡ false
-none_like [] leg text e is = refl
-none_like (l ∷ legs) leg text e is = by (has_line text l) refl (λ none. none_like legs leg text none is) e
-  where
-    by : (b : Bool) → has_line text l ≡ b → (find (has_line text) legs ≡ None → is_like_one legs leg ≡ false)
-        → cond b (Some l) (find (has_line text) legs) ≡ None → is_like_one (l ∷ legs) leg ≡ false
-    by true has later e = none_some l (sym e)
-    by false has later e =
-        ap (λ (t : Bool). t || is_like_one legs leg)
-        (ap (λ (bs : List ℕ). not (same_leg l leg) && bytes_eq (leg_text l) bs) is
-        ∙ (ap (λ (t : Bool). not (same_leg l leg) && t) has ∙ and_false (not (same_leg l leg))))
-        ∙ later e
+module _ (written : LegValue → List ℕ) where
+  like : (a b : LegValue) → same_leg a b ≡ false → written a ≡ written b → is_like_by written a b ≡ true
+  like a b differ texts =
+      ap₂ (λ (x y : Bool). not x && y) differ ((bytes_eq-Decides (written a) (written b)).1 texts)
 
--- the first of the legs with a line, beside whether one of them differs from it
-abbrev with_mark : Legs → Option LegValue → Option GroupSeen
-with_mark legs = option_map (λ first. (first, is_like_one legs first))
+  none_like : (legs : Legs) (leg : LegValue) (text : List ℕ) → find (has_text written text) legs ≡ None
+      → written leg ≡ text → is_like_one_by written legs leg ≡ false
+  none_like [] leg text e is = refl
+  none_like (l ∷ legs) leg text e is = by (has_text written text l) refl (λ none. none_like legs leg text none is) e
+    where
+      by : (b : Bool) → has_text written text l ≡ b → (find (has_text written text) legs ≡ None → is_like_one_by written legs leg ≡ false)
+          → cond b (Some l) (find (has_text written text) legs) ≡ None → is_like_one_by written (l ∷ legs) leg ≡ false
+      by true has later e = none_some l (sym e)
+      by false has later e =
+          ap (λ (t : Bool). t || is_like_one_by written legs leg)
+          (ap (λ (bs : List ℕ). not (same_leg l leg) && bytes_eq (written l) bs) is
+          ∙ (ap (λ (t : Bool). not (same_leg l leg) && t) has ∙ and_false (not (same_leg l leg))))
+          ∙ later e
 
-like_one_more : (legs : Legs) (leg first : LegValue)
-    → is_like_one (legs ++ leg ∷ []) first ≡ (is_like_one legs first || is_like leg first)
-like_one_more legs leg first =
-    list_any-append (λ other. is_like other first) legs (leg ∷ [])
-    ∙ ap (λ (t : Bool). is_like_one legs first || t) (or_false (is_like leg first))
+  -- the first of the legs with a line, beside whether one of them differs from it
+  abbrev with_mark : Legs → Option LegValue → Option GroupSeen
+  with_mark legs = option_map (λ first. (first, is_like_one_by written legs first))
 
-group_by : (legs : Legs) (leg : LegValue) (text : List ℕ) (o : Option LegValue) → find (has_line text) legs ≡ o
-    → (b : Bool) → has_line text leg ≡ b
-    → with_mark (legs ++ leg ∷ []) (option_or o (cond b (Some leg) None)) ≡ cond b (Some (grown leg (with_mark legs o))) (with_mark legs o)
-group_by legs leg text None is true has =
-    ap (λ (t : Bool). Some (leg, t))
-    (like_one_more legs leg leg
-    ∙ ap₂ (λ (a b : Bool). a || b) (none_like legs leg text is (same_text (leg_text leg) text has))
-    (ap (λ (t : Bool). not t && bytes_eq (leg_text leg) (leg_text leg)) (same_self leg)))
-group_by legs leg text None is false has = refl
-group_by legs leg text (Some first) is true has =
-    let line_is : leg_text first ≡ text = same_text (leg_text first) text (found (has_line text) (λ _. true) legs first is).0 in
-    let texts : leg_text leg ≡ leg_text first = same_text (leg_text leg) text has ∙ sym line_is in
-    ap (λ (t : Bool). Some (first, t))
-    (like_one_more legs leg first
-    ∙ ap (λ (t : Bool). is_like_one legs first || t)
-    (ap₂ (λ (a b : Bool). not a && b) (same_either first leg (same_leg first leg) refl) ((bytes_eq-Decides (leg_text leg) (leg_text first)).1 texts)
-    ∙ with_true (not (same_leg first leg))))
-  where
-    with_true : (b : Bool) → (b && true) ≡ b
-    with_true true = refl
-    with_true false = refl
-group_by legs leg text (Some first) is false has =
-    let line_is : leg_text first ≡ text = same_text (leg_text first) text (found (has_line text) (λ _. true) legs first is).0 in
-    ap (λ (t : Bool). Some (first, t))
-    (like_one_more legs leg first
-    ∙ (ap (λ (t : Bool). is_like_one legs first || t)
-    (ap (λ (bs : List ℕ). not (same_leg leg first) && bytes_eq (leg_text leg) bs) line_is
-    ∙ (ap (λ (t : Bool). not (same_leg leg first) && t) has ∙ and_false (not (same_leg leg first))))
-    ∙ or_false (is_like_one legs first)))
+  like_one_more : (legs : Legs) (leg first : LegValue)
+      → is_like_one_by written (legs ++ leg ∷ []) first ≡ (is_like_one_by written legs first || is_like_by written leg first)
+  like_one_more legs leg first =
+      list_any-append (λ other. is_like_by written other first) legs (leg ∷ [])
+      ∙ ap (λ (t : Bool). is_like_one_by written legs first || t) (or_false (is_like_by written leg first))
 
--- the group with a line after one more leg
-pub group_more : (legs : Legs) (leg : LegValue) (text : List ℕ)
-    → group_of (legs ++ leg ∷ []) text ≡ with_leg leg text (group_of legs text)
-group_more legs leg text =
-    ap (with_mark (legs ++ leg ∷ [])) (find-append (has_line text) legs (leg ∷ []))
-    ∙ group_by legs leg text (find (has_line text) legs) refl (has_line text leg) refl
+  group_by : (legs : Legs) (leg : LegValue) (text : List ℕ) (o : Option LegValue) → find (has_text written text) legs ≡ o
+      → (b : Bool) → has_text written text leg ≡ b
+      → with_mark (legs ++ leg ∷ []) (option_or o (cond b (Some leg) None)) ≡ cond b (Some (grown leg (with_mark legs o))) (with_mark legs o)
+  group_by legs leg text None is true has =
+      ap (λ (t : Bool). Some (leg, t))
+      (like_one_more legs leg leg
+      ∙ ap₂ (λ (a b : Bool). a || b) (none_like legs leg text is (same_text (written leg) text has))
+      (ap (λ (t : Bool). not t && bytes_eq (written leg) (written leg)) (same_self leg)))
+  group_by legs leg text None is false has = refl
+  group_by legs leg text (Some first) is true has =
+      let line_is : written first ≡ text = same_text (written first) text (found (has_text written text) (λ _. true) legs first is).0 in
+      let texts : written leg ≡ written first = same_text (written leg) text has ∙ sym line_is in
+      ap (λ (t : Bool). Some (first, t))
+      (like_one_more legs leg first
+      ∙ ap (λ (t : Bool). is_like_one_by written legs first || t)
+      (ap₂ (λ (a b : Bool). not a && b) (same_either first leg (same_leg first leg) refl) ((bytes_eq-Decides (written leg) (written first)).1 texts)
+      ∙ with_true (not (same_leg first leg))))
+    where
+      with_true : (b : Bool) → (b && true) ≡ b
+      with_true true = refl
+      with_true false = refl
+  group_by legs leg text (Some first) is false has =
+      let line_is : written first ≡ text = same_text (written first) text (found (has_text written text) (λ _. true) legs first is).0 in
+      ap (λ (t : Bool). Some (first, t))
+      (like_one_more legs leg first
+      ∙ (ap (λ (t : Bool). is_like_one_by written legs first || t)
+      (ap (λ (bs : List ℕ). not (same_leg leg first) && bytes_eq (written leg) bs) line_is
+      ∙ (ap (λ (t : Bool). not (same_leg leg first) && t) has ∙ and_false (not (same_leg leg first))))
+      ∙ or_false (is_like_one_by written legs first)))
+
+  -- the group with a line after one more leg
+  pub group_more : (legs : Legs) (leg : LegValue) (text : List ℕ)
+      → group_of written (legs ++ leg ∷ []) text ≡ with_leg (written leg) leg text (group_of written legs text)
+  group_more legs leg text =
+      ap (with_mark (legs ++ leg ∷ [])) (find-append (has_text written text) legs (leg ∷ []))
+      ∙ group_by legs leg text (find (has_text written text) legs) refl (has_text written text leg) refl
+
+  -- ---- what the groups say of each leg
+
+  marked_by : (legs : Legs) (leg first : LegValue) → list_any (same_leg leg) legs ≡ true
+      → find (has_text written (written leg)) legs ≡ Some first → (t : Bool) → same_leg first leg ≡ t
+      → is_like_one_by written legs first ≡ is_like_one_by written legs leg
+  marked_by legs leg first h is true same = ap (is_like_one_by written legs) (one_leg first leg same)
+  marked_by legs leg first h is false same =
+      let has = found (has_text written (written leg)) (λ other. is_like_by written other leg) legs first is in
+      let texts : written first ≡ written leg = same_text (written first) (written leg) has.0 in
+      any_of (λ other. is_like_by written other first) leg legs h (like leg first (same_either first leg false same) (sym texts))
+      ∙ sym (has.1 (like first leg same texts))
+
+  -- the group of a leg's line says whether the leg is marked
+  pub marked_is : (legs : Legs) (leg : LegValue) → list_any (same_leg leg) legs ≡ true
+      → is_mixed (group_of written legs (written leg)) ≡ is_like_one_by written legs leg
+  marked_is legs leg h =
+      let first = is_found (has_text written (written leg)) leg legs h (text_self (written leg)) in
+      ap (λ (o : Option LegValue). is_mixed (with_mark legs o)) first.1
+      ∙ marked_by legs leg first.0 h first.1 (same_leg first.0 leg) refl
 
 -- the legs of pieces, and then those of one more
 pub legs_more : (pieces all : List Piece) (piece : Piece) → all ≡ pieces ++ piece ∷ [] → legs_of pieces ++ piece.1 ≡ legs_of all
@@ -186,25 +207,7 @@ legs_more pieces all piece is =
     ap (λ (legs : Legs). legs_of pieces ++ legs) (sym (append-nil piece.1))
     ∙ (sym (flat_map-append (λ (p : Piece). p.1) pieces (piece ∷ [])) ∙ ap legs_of (sym is))
 
--- ---- what the groups say of each leg
-
-marked_by : (legs : Legs) (leg first : LegValue) → list_any (same_leg leg) legs ≡ true
-    → find (has_line (leg_text leg)) legs ≡ Some first → (t : Bool) → same_leg first leg ≡ t
-    → is_like_one legs first ≡ is_like_one legs leg
-marked_by legs leg first h is true same = ap (is_like_one legs) (one_leg first leg same)
-marked_by legs leg first h is false same =
-    let has = found (has_line (leg_text leg)) (λ other. is_like other leg) legs first is in
-    let texts : leg_text first ≡ leg_text leg = same_text (leg_text first) (leg_text leg) has.0 in
-    any_of (λ other. is_like other first) leg legs h (like leg first (same_either first leg false same) (sym texts))
-    ∙ sym (has.1 (like first leg same texts))
-
--- the group of a leg's line says whether the leg is marked
-pub marked_is : (legs : Legs) (leg : LegValue) → list_any (same_leg leg) legs ≡ true
-    → is_mixed (group_of legs (leg_text leg)) ≡ is_like_one legs leg
-marked_is legs leg h =
-    let first = is_found (has_line (leg_text leg)) leg legs h (text_self (leg_text leg)) in
-    ap (λ (o : Option LegValue). is_mixed (with_mark legs o)) first.1
-    ∙ marked_by legs leg first.0 h first.1 (same_leg first.0 leg) refl
+-- ---- the lines of legs
 
 legs_same : (mixed : List ℕ → Bool) (all legs : Legs)
     → ((leg : LegValue) → list_any (same_leg leg) legs ≡ true → mixed (leg_text leg) ≡ is_like_one all leg)
@@ -230,7 +233,7 @@ pieces_same name mixed all (piece ∷ later) h =
 
 -- the lines of pieces, whose legs are marked by the groups of all legs
 pub marked_lines : (name : List ℕ) (mixed : List ℕ → Bool) (pieces : List Piece)
-    → ((text : List ℕ) → mixed text ≡ is_mixed (group_of (legs_of pieces) text))
+    → ((text : List ℕ) → mixed text ≡ is_mixed (group_of leg_text (legs_of pieces) text))
     → flat_map (grouped_lines name mixed) pieces ≡ flat_map (piece_lines name (legs_of pieces)) pieces
 marked_lines name mixed pieces is =
-    pieces_same name mixed (legs_of pieces) pieces (λ leg e. is (leg_text leg) ∙ marked_is (legs_of pieces) leg e)
+    pieces_same name mixed (legs_of pieces) pieces (λ leg e. is (leg_text leg) ∙ marked_is leg_text (legs_of pieces) leg e)

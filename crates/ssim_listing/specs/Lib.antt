@@ -3,5 +3,6 @@ pub mod Marks
 pub mod Lines
 pub mod Dates
 pub mod Rows
+pub mod clauses
 pub mod internal
 pub mod examples

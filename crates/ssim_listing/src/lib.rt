@@ -5,7 +5,8 @@
 //! - [`csv_listing`], [`dated_csv_listing`]: the same as CSV, a row for each period or date and leg.
 //! - [`name_of`]: a flight as its designator.
 //! - [`push_leg_text`]: a leg as one line, which shows some of its columns; [`is_like_one`]: whether
-//!   a leg differs from another one that has the same line.
+//!   a leg differs from another one that has the same line; [`LegGroups`]: the same of many legs, by
+//!   whatever text they have.
 //!
 //! The flights are those that `ssim_schedule` gives, each with its pieces: the periods of the
 //! export. The only error is [`Memory`].
@@ -24,6 +25,7 @@ mod marks;
 mod row_writer;
 mod rows;
 
+pub use groups::{LegGroup, LegGroups, add_leg, are_mixed};
 pub use leg_text::{push_leg_text, push_sequence, push_shown};
 pub use lines::{dated_listing, listing, name_of, push_period};
 pub use marks::{is_like, is_like_one, mark_of};

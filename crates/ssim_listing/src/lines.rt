@@ -8,12 +8,12 @@ ghost use Rattle.ssim_listing.specs.Dates.{dated_listing};
 ghost use Rattle.ssim_listing.specs.Lines.{flight_name, legs_of, listing, no_flight, period_text};
 ghost use Rattle.ssim_listing.specs.Lines.{piece_lines};
 ghost use Rattle.ssim_listing.specs.internal.Divisions.{divided_lines, divided_listing, part_lines};
-ghost use Rattle.ssim_listing.specs.internal.Groups.{group_in, grouped_line, grouped_lines};
-ghost use Rattle.ssim_listing.specs.internal.Groups.{is_mixed};
+ghost use Rattle.ssim_listing.specs.clauses.Groups.{group_in, is_mixed};
+ghost use Rattle.ssim_listing.specs.internal.GroupedLines.{grouped_line, grouped_lines};
 
 use crate::dates::push_dates;
 use crate::division::Division;
-use crate::groups::{Groups, are_mixed, groups_of};
+use crate::groups::{LegGroups, are_mixed, groups_of};
 use crate::leg_text::{push_leg_text, push_shown};
 use crate::marks::mark_of;
 use arrayvec::ArrayVec;
@@ -34,7 +34,7 @@ pub(crate) struct Layout {
 #[derive(Drop)]
 struct Marks<'a> {
     name: &'a [u8],
-    groups: Groups<'a>,
+    groups: LegGroups<'a>,
 }
 
 /// The flights of an airline, each with its periods, and the legs of each period. A leg is marked

@@ -1,8 +1,9 @@
 -- One more leg goes to its group.
-use Rattle.std.proofs.Common.{◌≡◌, ◌∙◌, ◌+◌, ◌++◌, ◌∷◌, [], sym, ap, append_assoc, take, arith}
+use Rattle.std.proofs.Common.{ℕ, List, ◌≡◌, ◌∙◌, ◌+◌, ◌++◌, ◌∷◌, [], sym, ap, append_assoc, take, arith}
 use Rattle.std.proofs.lemmas.Grind.{common_steps}
 use Rattle.ssim_base.specs.Timetable.{Legs}
-use Rattle.ssim_listing.specs.internal.Groups.{group_of, with_leg}
+use Rattle.ssim_listing.specs.LegText.{leg_text}
+use Rattle.ssim_listing.specs.clauses.Groups.{group_in, group_of, with_leg}
 use Rattle.ssim_listing.proofs.Grouping.{group_more}
 use Rattle.ssim_listing.proofs.groups.add_legs.Goals as goal
 
@@ -12,8 +13,10 @@ loop-leg-preserved c = λ before h text.
     let legs = c.args.legs.now in
     let leg = c.leg-item.result in
     let more : take (i + 1) legs ≡ take i legs ++ leg ∷ [] = grind (arith, common_steps) in
+    let text_is = c.in_ok-text.ensures in
     c.in_ok-add_leg.ensures text
-    ∙ (ap (with_leg leg text) (c.loop-leg.invariant before h text)
-    ∙ (sym (group_more (before ++ take i legs) leg text)
-    ∙ ap (λ (ls : Legs). group_of ls text)
-    (append_assoc before (take i legs) (leg ∷ []) ∙ ap (λ (ls : Legs). before ++ ls) (sym more))))
+    ∙ (ap (λ (own : List ℕ). with_leg own leg text (group_in c.loop-leg.groups text)) text_is
+    ∙ (ap (with_leg (leg_text leg) leg text) (c.loop-leg.invariant before h text)
+    ∙ (sym (group_more leg_text (before ++ take i legs) leg text)
+    ∙ ap (λ (ls : Legs). group_of leg_text ls text)
+    (append_assoc before (take i legs) (leg ∷ []) ∙ ap (λ (ls : Legs). before ++ ls) (sym more)))))

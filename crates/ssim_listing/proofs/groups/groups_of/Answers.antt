@@ -3,7 +3,8 @@ use Rattle.std.proofs.Common.{◌≡◌, ◌∙◌, ◌+◌, ◌++◌, ◌∷◌
 use Rattle.std.proofs.lemmas.Grind.{common_steps}
 use Rattle.ssim_base.specs.Timetable.{Legs}
 use Rattle.ssim_listing.specs.Lines.{legs_of}
-use Rattle.ssim_listing.specs.internal.Groups.{group_of}
+use Rattle.ssim_listing.specs.LegText.{leg_text}
+use Rattle.ssim_listing.specs.clauses.Groups.{group_of}
 use Rattle.ssim_listing.proofs.Grouping.{legs_more}
 use Rattle.ssim_listing.proofs.groups.groups_of.Goals as goal
 
@@ -14,5 +15,5 @@ loop-piece-preserved c = λ text.
     let piece = c.piece-item.result in
     let more : take (i + 1) pieces ≡ take i pieces ++ piece ∷ [] = grind (arith, common_steps) in
     c.in_ok-add_legs.ensures (legs_of (take i pieces)) c.loop-piece.invariant text
-    ∙ ap (λ (ls : Legs). group_of ls text)
+    ∙ ap (λ (ls : Legs). group_of leg_text ls text)
     (ap (λ (ls : Legs). legs_of (take i pieces) ++ ls) c.legs.ensures ∙ legs_more (take i pieces) (take (i + 1) pieces) piece more)

@@ -1,6 +1,6 @@
 -- The groups mark each leg.
 use Rattle.std.proofs.Common.{◌≡◌, ◌++◌, List, ℕ, OnOk, ap, subst}
-use Rattle.ssim_listing.specs.internal.Groups.{group_in, is_mixed}
+use Rattle.ssim_listing.specs.clauses.Groups.{group_in, is_mixed}
 use Rattle.ssim_listing.proofs.Grouping.{marked_lines}
 use Rattle.ssim_listing.proofs.lines.push_pieces.Goals as goal
 

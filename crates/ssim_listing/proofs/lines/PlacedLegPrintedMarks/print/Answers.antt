@@ -2,7 +2,7 @@
 use Rattle.std.proofs.Common.{◌≡◌, ◌∙◌, ◌++◌, ◌∷◌, [], List, ℕ, ap, length, arith}
 use Rattle.ssim_listing.specs.LegText.{leg_text}
 use Rattle.ssim_listing.specs.Marks.{mark_text}
-use Rattle.ssim_listing.specs.internal.Groups.{group_in, is_mixed}
+use Rattle.ssim_listing.specs.clauses.Groups.{group_in, is_mixed}
 use Rattle.ssim_listing.proofs.Joining.{joined, rest_is}
 use Rattle.ssim_listing.proofs.lines.PlacedLegPrintedMarks.print.Goals as goal
 

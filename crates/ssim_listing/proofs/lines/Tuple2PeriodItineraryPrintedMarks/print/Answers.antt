@@ -5,7 +5,8 @@ use Rattle.std.proofs.lemmas.Result.{on_ok_weaker}
 use Rattle.ssim_base.specs.Export.{line}
 use Rattle.ssim_base.specs.Timetable.{Legs}
 use Rattle.ssim_listing.specs.Lines.{period_text}
-use Rattle.ssim_listing.specs.internal.Groups.{group_in, grouped_line, is_mixed}
+use Rattle.ssim_listing.specs.clauses.Groups.{group_in, is_mixed}
+use Rattle.ssim_listing.specs.internal.GroupedLines.{grouped_line}
 use Rattle.ssim_listing.proofs.Joining.{joined}
 use Rattle.ssim_listing.proofs.lines.Tuple2PeriodItineraryPrintedMarks.print.Goals as goal
 
