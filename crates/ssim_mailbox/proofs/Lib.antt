@@ -1,5 +1,10 @@
+pub mod CleanLines
 pub mod Drafts
 pub mod Finding
+pub mod LineBytes
+pub mod LineRoles
+pub mod MailboxParts
 pub mod Reading
 pub mod Splitting
+pub mod TextsAgain
 pub mod WholeParts

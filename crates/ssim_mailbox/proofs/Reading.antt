@@ -44,7 +44,7 @@ has_role (role ∷ roles) (suc i) piece below h =
 
 -- ---- a line under a dot
 
-no_end : (line : List ℕ) → is_kind line ≡ true → is_end line ≡ false
+pub no_end : (line : List ℕ) → is_kind line ≡ true → is_end line ≡ false
 no_end [] h = refl
 no_end (a ∷ []) h = grind (arith, nat_tests)
 no_end (a ∷ b ∷ []) h = grind (arith, nat_tests)

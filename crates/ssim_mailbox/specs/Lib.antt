@@ -3,6 +3,7 @@ pub mod Addresses
 pub mod Roles
 pub mod FreeTexts
 pub mod Texts
+pub mod Again
 pub mod clauses
 pub mod examples
 pub mod internal

@@ -10,7 +10,8 @@
 //! of none. Any other lines are part of the text above, or a text of their own. Empty lines at both
 //! ends of a text are no part of it.
 //!
-//! **Promise.** The texts are exactly those that the definitions name, or memory is missing.
+//! **Promise.** The texts are exactly those that the definitions name, or memory is missing. Put into
+//! one mailbox, each with a line `NNNN` below it, they are read again as the same texts.
 #![tactic(auto)]
 
 mod address;
@@ -21,5 +22,5 @@ mod line;
 mod role;
 mod text;
 
-pub use laws::worked_mailboxes;
+pub use laws::{texts_read_again, worked_mailboxes};
 pub use text::{Text, Texts};
