@@ -35,6 +35,7 @@ use Rattle.ssim_outbox.specs.clauses.Messages.{RefusesSubs}
 use Rattle.ssim_outbox.specs.Messages.{Send}
 use Rattle.ssim_outbox.specs.declared.send_fault.SendFault.{SendFault}
 use Rattle.ssim_outbox.specs.declared.send_fault.SendFault.TheVariants as send_fault
+use Rattle.ssim_outbox.specs.PlanOrder.{ComeInOrder, DoNotOverlap}
 use Rattle.ssim_outbox.specs.Publication.{IsPlan, LackReferences, Publishes, RefusesPublication}
 use Rattle.ssim_outbox.specs.Publication.{publication_lines}
 use Rattle.ssim_outbox.specs.Publication.{dates_of_plan, subs_of_plan}
@@ -79,6 +80,8 @@ plan_agrees rows old new plan left after agree is = record {
       (agree flight day exists within) (is.published flight day exists within);
   differing = is.differing;
   acting = is.acting;
+  ordered = is.ordered;
+  apart = is.apart;
 }
 
 -- ---- the dates that differ
@@ -142,15 +145,15 @@ name_equal old older new newer agree agree_too (sub ∷ plan) exist h = (
 
 -- a plan between schedules is one between the timetables that these have
 pub plan_of_days : (from to : DeskSeen) (rows : List Row) (old new after : FlightNumber → Days)
-    (plan told : List PlannedSub) (unsaid : List Compared) → rows ≡ from.base.rows → told ≡ plan
-    → AllByRecursion (λ (sub : PlannedSub). IsFlight sub.flight) told
+    (plan : List PlannedSub) (unsaid : List Compared) → rows ≡ from.base.rows
+    → AllByRecursion (λ (sub : PlannedSub). IsFlight sub.flight) plan
     → ((flight : FlightNumber) → IsFlight flight → old flight ≡ days_of_desk from flight)
     → ((flight : FlightNumber) → IsFlight flight → new flight ≡ days_of_desk to flight)
     → Leave rows plan old after → IsPublished rows old new after → unsaid ≡ differences after new
     → AllByRecursion (λ (sub : PlannedSub). IsSaid sub.action) plan
     → AllByRecursion (NamesDifferences old new) plan → ActOnTheirDates rows plan old
-    → HasPlan from to plan unsaid
-plan_of_days from to rows old new after plan told unsaid rows_are same exist is_old is_new leave published unsaid_is said differing acting =
+    → ComeInOrder plan → DoNotOverlap plan → HasPlan from to plan unsaid
+plan_of_days from to rows old new after plan unsaid rows_are exist is_old is_new leave published unsaid_is said differing acting ordered apart =
     let agree = agree_equal old (days_of_desk from) is_old in
     let agree_too = agree_equal new (days_of_desk to) is_new in
     record {
@@ -165,10 +168,12 @@ plan_of_days from to rows old new after plan told unsaid rows_are same exist is_
             (subst (λ (legs : Legs). IsPublishedOn rows day (on_day (old flight) day) legs (on_day (after flight) day))
             (agree_too flight day exists within) (published flight day exists within));
         differing = name_equal old (days_of_desk from) new (days_of_desk to) agree agree_too plan
-            (subst (AllByRecursion (λ (sub : PlannedSub). IsFlight sub.flight)) same exist) differing;
+            exist differing;
         acting = λ flight day exists within.
             subst (ActOn rows plan flight day) (agree flight day exists within)
             (acting flight day exists within);
+        ordered = ordered;
+        apart = apart;
       });
       said = said;
       unsaid_is = unsaid_is ∙ differences_agree after after new (days_of_desk to) (agree_self after) agree_too;

@@ -22,6 +22,7 @@ pub mod Findings
 pub mod PlannedSubs
 pub mod ListedDates
 pub mod Settling
+pub mod Sorted
 pub mod Weeks
 pub mod SaidAgain
 pub mod MoreActions

@@ -16,7 +16,6 @@ use Rattle.ssim_mailbox.specs.Texts.{MailText, texts_in}
 use Rattle.ssim_held.specs.Entries.{AreEntries, DeskSeen, Entry, map_of, state_of}
 use Rattle.ssim_held.specs.Held.{HeldMessages}
 use Rattle.ssim_held.specs.declared.fault.DeskFault.{DeskFault}
-use Rattle.ssim_held.specs.declared.fault.DeskFault.TheVariants as fault
 use Rattle.ssim_desk.specs.Meaning.{left_by}
 use Rattle.ssim_desk.specs.Steps.{IsNew, Takes}
 use Rattle.ssim_desk.specs.declared.desk.Took.TheVariants as took

@@ -2,7 +2,7 @@
 use Rattle.std.proofs.Common.{◌≡◌, ◌∙◌, ◌⊎◌, inl, inr, ℕ, ◌<◌, Bool, true, false, ◌&&◌, ◌||◌, nat_eq}
 use Rattle.std.proofs.Common.{nat_le, nat_lt, not, slice_get, slice_index_or, ◌+◌, ◌≤◌, Some}
 use Rattle.std.proofs.lemmas.Option.{get_or_from_slice_get}
-use Rattle.std.proofs.Common.{if◌then◌else◌, List, [], ◌++◌, length, map, refl, sym, ap, subst, arith}
+use Rattle.std.proofs.Common.{if◌then◌else◌, List, [], ◌∷◌, ◌++◌, length, map, refl, sym, ap, subst, arith}
 use Rattle.std.specs.Prelude.{IsTrue}
 use Rattle.std.specs.List.{AllByRecursion}
 use Rattle.std.proofs.lemmas.Bool.Decides.{nat_tests}
@@ -21,6 +21,7 @@ use Rattle.ssim_difference.specs.Differences.{differences}
 use Rattle.ssim_text.proofs.ReadsBack.{all_both}
 use Rattle.ssim_outbox.specs.clauses.Acting.{ActEach}
 use Rattle.ssim_outbox.specs.Acting.{ActOn}
+use Rattle.ssim_outbox.specs.PlanOrder.{HaveOnePeriod, names_date}
 use Rattle.ssim_outbox.specs.Published.{IsPublished, IsPublishedOn, NamesDifferences, legs_after}
 use Rattle.ssim_outbox.specs.Reach.{IsSaid, Leads, Reach, after_all}
 use Rattle.ssim_outbox.specs.declared.draft.PlanDraft.{PlanDraft}
@@ -29,20 +30,26 @@ use Rattle.ssim_outbox.specs.internal.Drafts.{ActOnEach, Acts, AreAsLong, Dates,
 use Rattle.ssim_outbox.specs.internal.Drafts.{IsSettled, Settles}
 use Rattle.ssim_outbox.specs.internal.Drafts.{after_actions, date_at, dates_before}
 use Rattle.ssim_outbox.specs.internal.Drafts.{dates_of_flights, dates_of_period, no_dates, one_date}
-use Rattle.ssim_outbox.specs.internal.Drafts.{planned}
+use Rattle.ssim_outbox.specs.internal.Drafts.{MakeNamed, planned}
 use Rattle.ssim_outbox.proofs.Acting.{on_both, on_planned}
 use Rattle.ssim_outbox.proofs.ListedDates.{differing_listed}
 use Rattle.ssim_outbox.proofs.PlannedSubs.{after_both, after_planned, any_planned}
 use Rattle.ssim_outbox.proofs.PlannedSubs.{reached, said_planned}
 
-both : (a b : Bool) → IsTrue (a && b) → (a ≡ true) × (b ≡ true)
+pub both : (a b : Bool) → IsTrue (a && b) → (a ≡ true) × (b ≡ true)
 both true true h = (refl, refl)
 both true false h = absurd (grind (arith, nat_tests))
 both false b h = absurd (grind (arith, nat_tests))
 
-either : (a b : Bool) → IsTrue (a || b) → IsTrue a ⊎ IsTrue b
+pub either : (a b : Bool) → IsTrue (a || b) → IsTrue a ⊎ IsTrue b
 either true b h = inl refl
 either false b h = inr h
+
+-- what follows from a fact of each
+every_weaker : {A : Type 0} (P Q : A → Type 0) → ((x : A) → P x → Q x) → (xs : List A)
+    → AllByRecursion P xs → AllByRecursion Q xs
+every_weaker P Q f [] h = tt
+every_weaker P Q f (x ∷ xs) h = (f x h.0, every_weaker P Q f xs h.1)
 
 -- the itinerary of a day of a list
 pub itinerary_at : (xs days : Days) (n : ℕ) (legs : Legs) → xs ≡ days → slice_get xs n ≡ Some legs
@@ -217,19 +224,22 @@ module _ (rows : List Row) (old new : FlightNumber → Days) where
           (same-true flight g h.0) here)
 
   -- More sub-messages, for one flight and one period, which each act on each of its dates, and
-  -- lead there to the new itinerary. The two timetables differ on each of these dates.
+  -- lead there to the new itinerary. The two timetables differ on each of these dates, and those
+  -- before them made the new itinerary on none.
   pub more_acted : (before after : PlanDraft) (actions : List Action) (flight : FlightNumber)
       (period : DayRange) → IsDraft rows old new before → AllByRecursion IsSaid actions
       → ((action : Action) → NamesDifferences old new (planned flight period action))
       → ((n : ℕ) → n < day_count → holds period n ≡ true
       → on_day (days_in after.schedule flight) n ≡ on_day (new flight) n)
+      → ((n : ℕ) → n < day_count → holds period n ≡ true
+      → on_day (days_in before.schedule flight) n ≡ on_day (new flight) n → ⊥)
       → after.subs.items ≡ before.subs.items ++ map (planned flight period) actions
       → Acts rows actions flight period before.schedule after.schedule
       → AreAsLong before.schedule after.schedule
       → ((n : ℕ) → n < day_count → holds period n ≡ true
       → ActEach rows n actions (on_day (days_in before.schedule flight) n))
       → Settles rows old new (dates_of_period flight period) before after
-  more_acted before after actions flight period is said names made subs acts as_long each = record {
+  more_acted before after actions flight period is said names made fresh subs acts as_long each = record {
     draft = record {
       leave = λ g n exists within. acts g n exists within
           ∙ ap (after_actions rows actions flight period g n) (is.leave g n exists within)
@@ -254,6 +264,9 @@ module _ (rows : List Row) (old new : FlightNumber → Days) where
           (any_planned (NamesDifferences old new) flight period actions names));
       as_long = λ g. as_long g ∙ is.as_long g;
       between = λ g n exists within. between_by g n exists within
+          (same_flight flight g && holds period n) refl;
+      made = λ g n exists within. made_of g n exists within;
+      apart = λ g n exists within. period_of g n exists within
           (same_flight flight g && holds period n) refl;
     };
     settled = λ g n exists within. settled_by g n exists within
@@ -295,6 +308,70 @@ module _ (rows : List Row) (old new : FlightNumber → Days) where
       between_by g n exists within false e =
           subst (λ (legs : Legs). (legs ≡ on_day (new g) n) ⊎ (legs ≡ on_day (old g) n))
           (sym (same_on g n exists within e)) (is.between g n exists within)
+
+      -- what was made before stays
+      still : (g : FlightNumber) (n : ℕ) → IsFlight g → n < day_count → (b : Bool)
+          → (same_flight flight g && holds period n) ≡ b
+          → on_day (days_in before.schedule g) n ≡ on_day (new g) n
+          → on_day (days_in after.schedule g) n ≡ on_day (new g) n
+      still g n exists within true e h = made_on g n within e
+      still g n exists within false e h = same_on g n exists within e ∙ h
+
+      made_of : (g : FlightNumber) (n : ℕ) → IsFlight g → n < day_count
+          → MakeNamed g n (days_in after.schedule g) (new g) after.subs.items
+      made_of g n exists within = subst (AllByRecursion has_now) (sym subs)
+          (all_both has_now before.subs.items (map (planned flight period) actions)
+          (every_weaker was has_now (λ sub h named. still g n exists within
+          (same_flight flight g && holds period n) refl (h named)) before.subs.items
+          (is.made g n exists within))
+          (any_planned has_now flight period actions (λ action named. made_on g n within named)))
+        where
+          was : PlannedSub → Type 0
+          was sub = names_date g n sub ≡ true
+              → on_day (days_in before.schedule g) n ≡ on_day (new g) n
+
+          has_now : PlannedSub → Type 0
+          has_now sub = names_date g n sub ≡ true
+              → on_day (days_in after.schedule g) n ≡ on_day (new g) n
+
+      -- no sub-message before names a date of the period
+      none_before_it : (g : FlightNumber) (n : ℕ) → n < day_count
+          → (same_flight flight g && holds period n) ≡ true
+          → on_day (days_in before.schedule g) n ≡ on_day (new g) n → ⊥
+      none_before_it g n within e =
+          let h = both (same_flight flight g) (holds period n) e in
+          subst (λ (f : FlightNumber). on_day (days_in before.schedule f) n ≡ on_day (new f) n → ⊥)
+          (same-true flight g h.0) (fresh n within h.1)
+
+      period_of : (g : FlightNumber) (n : ℕ) → IsFlight g → n < day_count → (b : Bool)
+          → (same_flight flight g && holds period n) ≡ b → HaveOnePeriod g n after.subs.items
+      period_of g n exists within true e = (
+        period,
+        subst (AllByRecursion has) (sym subs)
+            (all_both has before.subs.items (map (planned flight period) actions)
+            (every_weaker was has
+            (λ sub h named. absurd (none_before_it g n within e (h named))) before.subs.items
+            (is.made g n exists within))
+            (any_planned has flight period actions (λ action named. refl))),
+      )
+        where
+          was : PlannedSub → Type 0
+          was sub = names_date g n sub ≡ true
+              → on_day (days_in before.schedule g) n ≡ on_day (new g) n
+
+          has : PlannedSub → Type 0
+          has sub = names_date g n sub ≡ true → sub.period ≡ period
+      period_of g n exists within false e =
+          let one = is.apart g n exists within in (
+            one.0,
+            subst (AllByRecursion (λ (sub : PlannedSub). names_date g n sub ≡ true
+                → sub.period ≡ one.0)) (sym subs)
+                (all_both (λ (sub : PlannedSub). names_date g n sub ≡ true → sub.period ≡ one.0)
+                before.subs.items (map (planned flight period) actions) one.1
+                (any_planned (λ (sub : PlannedSub). names_date g n sub ≡ true
+                → sub.period ≡ one.0) flight period actions
+                (λ action named. let bad : false ≡ true = sym e ∙ named in absurd cc))),
+          )
 
       settled_by : (g : FlightNumber) (n : ℕ) → IsFlight g → n < day_count → (b : Bool)
           → (same_flight flight g && holds period n) ≡ b
@@ -342,8 +419,10 @@ module _ (rows : List Row) (old new : FlightNumber → Days) where
   date_acted before after actions flight period day exists within is one other leads each subs acts as_long =
       fewer (dates_of_period flight period) (one_date flight day) before after
       (λ g n _ _ h. ap (λ (b : Bool). same_flight flight g && b) (one n) ∙ h)
-      (more_acted before after actions flight period is leads.said names made subs acts as_long
-      each_on)
+      (more_acted before after actions flight period is leads.said names made
+      (λ n _ h same. apart
+      (subst (λ (m : ℕ). on_day (days_in before.schedule flight) m ≡ on_day (new flight) m)
+      (sym (that_day n h)) same)) subs acts as_long each_on)
     where
       apart : on_day (days_in before.schedule flight) day ≡ on_day (new flight) day → ⊥
       apart e =
@@ -405,6 +484,9 @@ module _ (rows : List Row) (old new : FlightNumber → Days) where
     as_long = λ g. ap (λ (days : FlightNumber → Days). length (days g)) same;
     differing = subst (AllByRecursion (NamesDifferences old new)) (sym none) tt;
     between = λ g n _ _. inr (ap (λ (days : FlightNumber → Days). on_day (days g) n) same);
+    made = λ g n _ _. subst (MakeNamed g n (days_in d.schedule g) (new g)) (sym none) tt;
+    apart = λ g n _ _. subst (HaveOnePeriod g n) (sym none)
+        (record { first = 0; last = 0; days = [] }, tt);
   }
 
   -- a draft in which each date is settled on which one before it differs is published
@@ -442,20 +524,32 @@ made_at made old new day legs before wanted legs_are before_are wanted_are same 
 
 -- a draft with the sub-messages of a period that each act on each of its dates, and make it
 pub kept_period : (rows : List Row) (old new : FlightNumber → Days) (before after : PlanDraft)
-    (actions : List Action) (flight : FlightNumber) (period : DayRange) → period.first < day_count
-    → IsDraft rows old new before → AllByRecursion IsSaid actions → holds period period.first ≡ true
+    (actions : List Action) (flight : FlightNumber) (period : DayRange) → IsFlight flight
+    → period.first < day_count → IsDraft rows old new before → AllByRecursion IsSaid actions
+    → holds period period.first ≡ true
     → ((n : ℕ) → n < day_count → holds period n ≡ true
-    → IsMadeOn (days_in after.schedule flight) (old flight) (new flight) n)
+    → IsMadeOn (days_in after.schedule flight) (days_in before.schedule flight) (new flight) n)
     → after.subs.items ≡ before.subs.items ++ map (planned flight period) actions
     → Acts rows actions flight period before.schedule after.schedule
     → AreAsLong before.schedule after.schedule → period.last < length (old flight)
     → ActOnEach rows actions flight period before.schedule → IsDraft rows old new after
-kept_period rows old new before after actions flight period within is said first made subs acts as_long last each =
+kept_period rows old new before after actions flight period exists within is said first made subs acts as_long last each =
     let all = more_acted rows old new before after actions flight period is said
-    (λ action. record { some = (period.first, within, first); each = λ n w h. (made n w h).1 })
-    (λ n w h. (made n w h).0) subs acts as_long (λ n w h. each n w (has n h) h) in
+    (λ action. record { some = (period.first, within, first); each = differ })
+    (λ n w h. (made n w h).0) (λ n w h. (made n w h).1) subs acts as_long
+    (λ n w h. each n w (has n h) h) in
     all.draft
   where
+    -- a date on which the new itinerary was not made before has the old one there
+    differ : (n : ℕ) → n < day_count → holds period n ≡ true
+        → on_day (old flight) n ≡ on_day (new flight) n → ⊥
+    differ n w h same = by (is.between flight n exists w)
+      where
+        by : (on_day (days_in before.schedule flight) n ≡ on_day (new flight) n)
+            ⊎ (on_day (days_in before.schedule flight) n ≡ on_day (old flight) n) → ⊥
+        by (inl e) = (made n w h).1 e
+        by (inr e) = (made n w h).1 (e ∙ same)
+
     -- there is an itinerary on each day of the period
     has : (n : ℕ) → holds period n ≡ true → n < length (days_in before.schedule flight)
     has n h =

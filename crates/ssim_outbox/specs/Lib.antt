@@ -9,6 +9,7 @@ pub mod Messages
 pub mod DatedSub
 pub mod SendLaws
 pub mod Order
+pub mod PlanOrder
 pub mod Fault
 pub mod clauses
 pub mod examples

@@ -29,6 +29,7 @@ use Rattle.ssim_outbox.specs.Heading.{NamesHeading}
 use Rattle.ssim_outbox.specs.MailFile.{mail_file}
 use Rattle.ssim_outbox.specs.Messages.{Send}
 use Rattle.ssim_outbox.specs.Order.{Follows, RefusesOrder}
+use Rattle.ssim_outbox.specs.PlanOrder.{ComeInOrder, DoNotOverlap}
 use Rattle.ssim_outbox.specs.declared.fault.OutboxFault.{OutboxFault}
 use Rattle.ssim_outbox.specs.declared.fault.OutboxFault.TheVariants as fault
 
@@ -62,13 +63,16 @@ pub record BeginAt (from to : DeskSeen) (word : List ℕ) (heading : MessageValu
 -- The sub-messages lead the old timetable towards the new one, and `after` is what they leave. On
 -- each date `after` has the new itinerary if messages can make it, and the old one if not. No
 -- sub-message names a date on which its flight does not differ, and each acts on every date that it
--- names.
+-- names. They come by flight, and those of one flight by first day. Two of one flight have the same
+-- period, or no date of both.
 pub record IsPlan (rows : List Row) (old new : FlightNumber → Days) (plan : List PlannedSub)
     (after : FlightNumber → Days) : Type 0 where
   pub leave : Leave rows plan old after
   pub published : IsPublished rows old new after
   pub differing : AllByRecursion (NamesDifferences old new) plan
   pub acting : ActOnTheirDates rows plan old
+  pub ordered : ComeInOrder plan
+  pub apart : DoNotOverlap plan
 
 -- the sub-messages of a plan, for flights of an airline and with full dates
 abbrev pub subs_of_plan : List ℕ → List PlannedSub → List Sub

@@ -2,6 +2,7 @@
 pub mod ColumnLines
 pub mod Candidates
 pub mod Drafts
+pub mod Sorted
 pub mod ReasonPieces
 pub mod AddedLines
 pub mod Texts

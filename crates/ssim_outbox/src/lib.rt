@@ -47,8 +47,9 @@
 //!
 //! One sub-message of a plan serves all dates of a period of which the same is said. It is tried on
 //! a copy of the timetable, and kept only if it acts on each date of its period, and makes it;
-//! whatever is left then is said date by date. So nothing rests on how the periods are found. It is
-//! not promised that the sub-messages are the fewest, nor in which order they come.
+//! whatever is left then is said date by date. So nothing rests on how the periods are found. The
+//! sub-messages come by flight, and those of one flight by first day. It is not promised that they
+//! are the fewest.
 //!
 //! The lines of the unsaid dates are exactly those of a definition: of each flight the canonical
 //! division of its dates by their reasons.
@@ -78,6 +79,7 @@ mod order;
 mod period_actions;
 mod period_parts;
 mod plan;
+mod plan_order;
 mod plan_subs;
 mod planned_sub;
 mod publication;

@@ -20,11 +20,17 @@ const WEEK: u16 = 7;
 ///
 /// Between two cuts all days of one weekday have the same itineraries, so that one week is
 /// compared.
-pub(crate) fn is_made(made: &Schedule, change: &FlightChange, period: Period) -> bool
+pub(crate) fn is_made(
+    made: &Schedule,
+    before: &Schedule,
+    change: &FlightChange,
+    period: Period,
+) -> bool
     ensures first { result ≡ true → (period.first < day_count)
         × (holds period period.first ≡ true) }
     ensures made { result ≡ true → (n : ℕ) → n < day_count → holds period n ≡ true
-        → IsMadeOn (days_in made.now change.now.flight) change.now.old.days change.now.new.days n }
+        → IsMadeOn (days_in made.now change.now.flight) (days_in before.now change.now.flight)
+        change.now.new.days n }
 {
     let mut first = period.first().number();
     if !holds_number(period, first) {
@@ -33,8 +39,8 @@ pub(crate) fn is_made(made: &Schedule, change: &FlightChange, period: Period) ->
     let end = period.last().number() + 1;
     while first < end {
         if holds_number(period, first) {
-            let next = next_cut(made, change, first, end);
-            if !is_made_between(made, change, period, first, next) {
+            let next = next_cut(made, before, change, first, end);
+            if !is_made_between(made, before, change, period, first, next) {
                 return false;
             }
             first = next;
@@ -46,17 +52,17 @@ pub(crate) fn is_made(made: &Schedule, change: &FlightChange, period: Period) ->
 }
 
 // The first cut of the itineraries after a day number and before an end; the end if there is none.
-fn next_cut(made: &Schedule, change: &FlightChange, first: u16, end: u16) -> u16
+fn next_cut(made: &Schedule, before: &Schedule, change: &FlightChange, first: u16, end: u16) -> u16
     requires { first < end }
     ensures from { first < result }
     ensures to { result ≤ end }
     ensures made { AreWeekly (days_in made.now change.now.flight) first result }
-    ensures old { AreWeekly change.now.old.days first result }
+    ensures before { AreWeekly (days_in before.now change.now.flight) first result }
     ensures new { AreWeekly change.now.new.days first result }
 {
     let made_end = cut_after(made.cuts(&change.flight), first, end);
-    let old_end = cut_after(change.old.cuts(), first, made_end);
-    cut_after(change.new.cuts(), first, old_end)
+    let before_end = cut_after(before.cuts(&change.flight), first, made_end);
+    cut_after(change.new.cuts(), first, before_end)
 }
 
 // The first of some cuts after a day number and before an end; the end if there is none.
@@ -91,6 +97,7 @@ fn place_after(cuts: &[u32], day: u32) -> usize
 // an end, if the period holds the day, and was not there before.
 fn is_made_between(
     made: &Schedule,
+    before: &Schedule,
     change: &FlightChange,
     period: Period,
     first: u16,
@@ -99,7 +106,8 @@ fn is_made_between(
     requires { first ≤ end }
     ensures { result ≡ true → (n : ℕ) → first ≤ n → n < end → n < first + 7 → n < day_count
         → holds period n ≡ true
-        → IsMadeOn (days_in made.now change.now.flight) change.now.old.days change.now.new.days n }
+        → IsMadeOn (days_in made.now change.now.flight) (days_in before.now change.now.flight)
+        change.now.new.days n }
 {
     let end = if end - first > WEEK {
         first + WEEK
@@ -107,7 +115,7 @@ fn is_made_between(
         end
     };
     for number in first..end {
-        if holds_number(period, number) && !is_made_at(made, change, number) {
+        if holds_number(period, number) && !is_made_at(made, before, change, number) {
             return false;
         }
     }
@@ -115,14 +123,14 @@ fn is_made_between(
 }
 
 // Whether the new itinerary is made on the day with a number, and was not there before.
-fn is_made_at(made: &Schedule, change: &FlightChange, number: u16) -> bool
+fn is_made_at(made: &Schedule, before: &Schedule, change: &FlightChange, number: u16) -> bool
     ensures { result ≡ true → number < day_count → IsMadeOn (days_in made.now change.now.flight)
-        change.now.old.days change.now.new.days number }
+        (days_in before.now change.now.flight) change.now.new.days number }
 {
     let Some(day) = Day::from_number(number) else {
         return false;
     };
     let wanted = change.new.at(day).legs();
     same_legs(made.itinerary(&change.flight, day), wanted)
-        && !same_legs(change.old.at(day).legs(), wanted)
+        && !same_legs(before.itinerary(&change.flight, day), wanted)
 }

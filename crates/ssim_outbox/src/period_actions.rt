@@ -15,8 +15,8 @@ use ssim_text::Action;
 use ssim_values::{Memory, Period};
 
 /// Adds sub-messages of a flight and a period to a draft, if each acts on each date of the period,
-/// and they lead there from the old to the new itinerary, which differ. Otherwise the draft stays
-/// as it is.
+/// and they make there the new itinerary, which no sub-messages before them made. Otherwise the
+/// draft stays as it is.
 pub(crate) fn add_period(
     rows: &[StationRow],
     draft: &mut PlanDraft,
@@ -29,15 +29,17 @@ pub(crate) fn add_period(
         → IsDraft rows.now from to draft.old → IsDraft rows.now from to draft.new) }
 {
     let flight = change.flight;
-    // No effect at run time. The proof reads from this use that the flight has an itinerary on each
-    // day of the period.
+    // No effect at run time. The proof reads from these uses that the flight exists, and has an
+    // itinerary on each day of the period.
+    let _ = flight.number();
+    let _ = flight.suffix();
     let _ = change.old.at(period.last());
     let mut trial = draft.schedule.copy()?;
     let each = act_on(&mut trial, rows, &actions, flight, period)?;
     if !each {
         return Ok(());
     }
-    if !is_made(&trial, change, period) {
+    if !is_made(&trial, &draft.schedule, change, period) {
         return Ok(());
     }
     draft.schedule = trial;

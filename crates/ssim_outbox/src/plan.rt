@@ -2,17 +2,19 @@
 
 ghost use Rattle.std.specs.Prelude.{◌≡◌, IfOk};
 ghost use Rattle.std.specs.List.{AllByRecursion};
-ghost use Rattle.ssim_values.specs.Flight.{FlightNumber};
+ghost use Rattle.ssim_values.specs.Flight.{FlightNumber, IsFlight};
 ghost use Rattle.ssim_base.specs.Timetable.{Days};
 ghost use Rattle.ssim_schedule.specs.FlightPieces.{divided_flights};
 ghost use Rattle.ssim_schedule.specs.clauses.Schedule.{days_in};
 ghost use Rattle.ssim_difference.specs.Differences.{differences};
 ghost use Rattle.ssim_outbox.specs.Acting.{ActOnTheirDates};
+ghost use Rattle.ssim_outbox.specs.PlanOrder.{ComeInOrder, DoNotOverlap};
 ghost use Rattle.ssim_outbox.specs.Published.{IsPublished, Leave, NamesDifferences};
 ghost use Rattle.ssim_outbox.specs.Reach.{IsSaid};
 
 use crate::draft::PlanDraft;
 use crate::flight_periods::add_flights;
+use crate::plan_order::{flights_exist, in_order};
 use crate::planned_sub::PlannedSub;
 use crate::single_dates::settle_flights;
 use ssim_base::StationRow;
@@ -64,6 +66,13 @@ pub fn make_plan(
     // Each acts on each of these dates.
     ensures acting { IfOk result
         (λ plan. ActOnTheirDates rows.now plan.subs.items (days_in from.now)) }
+
+    // They come by flight, and those of one flight by first day. Two of one flight have the same
+    // period, or no date of both.
+    ensures ordered { IfOk result (λ plan. ComeInOrder plan.subs.items) }
+    ensures apart { IfOk result (λ plan. DoNotOverlap plan.subs.items) }
+    ensures exist { IfOk result
+        (λ plan. AllByRecursion (λ sub. IsFlight sub.flight) plan.subs.items) }
 {
     let wanted = to.copy()?.into_flights()?;
     let mut draft = PlanDraft::of(alloc, from)?;
@@ -72,9 +81,12 @@ pub fn make_plan(
     let left = left_in(alloc, &draft, &wanted)?;
     settle_flights(alloc, rows, &mut draft, from, to, &left)?;
     let unsaid = left_in(alloc, &draft, &wanted)?;
+    let PlanDraft { subs, schedule } = draft;
+    flights_exist(&subs);
+    let subs = in_order(subs)?;
     Ok(Plan {
-        subs: draft.subs,
-        after: draft.schedule,
+        subs,
+        after: schedule,
         unsaid,
     })
 }

@@ -5,7 +5,6 @@ ghost use Rattle.std.specs.List.{AllByRecursion};
 ghost use Rattle.ssim_base.specs.Resolve.{AreResolved};
 ghost use Rattle.ssim_records.specs.Carrier.{CarrierFields};
 ghost use Rattle.ssim_text.specs.declared.kind.Kind.TheVariants.{Ssm};
-ghost use Rattle.ssim_values.specs.Flight.{IsFlight};
 ghost use Rattle.ssim_outbox.specs.Reach.{IsSaid};
 ghost use Rattle.ssim_outbox.specs.clauses.Messages.{IsAlone};
 ghost use Rattle.ssim_outbox.specs.Publication.{dates_of_plan, subs_of_plan};
@@ -27,18 +26,7 @@ pub(crate) fn plan_between(alloc: Global, from: &Holdings, to: &Holdings) -> Res
     let old = from.schedule()?;
     let new = to.schedule()?;
     let plan = make_plan(alloc, from.base().rows(), &old, &new)?;
-    flights_exist(&plan.subs);
     Ok(plan)
-}
-
-// No effect at run time. The proof reads from the uses in it that the flights exist.
-fn flights_exist(subs: &[PlannedSub])
-    ensures { AllByRecursion (λ sub. IsFlight sub.flight) subs.now }
-{
-    for sub in subs {
-        let _ = sub.flight.number();
-        let _ = sub.flight.suffix();
-    }
 }
 
 /// The sub-messages of a plan, for flights of an airline and with full dates. A text with the

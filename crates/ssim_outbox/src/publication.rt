@@ -37,8 +37,9 @@ pub struct Published {
 /// `.ZRHRMLX/01JUN00001E001`. The group serial rises by one from message to message.
 ///
 /// A desk that holds what `from` holds takes each message as new. It then has on each date what
-/// `to` has, if messages can make it, and else what `from` has. The lines say which messages there
-/// are, and what they leave unsaid.
+/// `to` has, if messages can make it, and else what `from` has. The sub-messages come by flight, and
+/// those of one flight by first day. The lines say which messages there are, and what they leave
+/// unsaid.
 ///
 /// The error is the first of these: 41 `Airline` if `to` has another airline; 40 `TimeMode` if it
 /// has the other time mode; 21 `BadReference` if the word is no reference line, with or without an

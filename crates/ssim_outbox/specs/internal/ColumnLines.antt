@@ -10,7 +10,7 @@ use Rattle.ssim_text.specs.Values.{EquipmentValue}
 use Rattle.ssim_text.specs.declared.action.NewLegs.{NewLegs}
 use Rattle.ssim_text.specs.declared.leg.LegLine.{LegLine}
 use Rattle.ssim_text.specs.declared.segment.SegmentLine.{SegmentLine}
-use Rattle.ssim_base.specs.Timetable.{LegValue, Legs}
+use Rattle.ssim_base.specs.Timetable.{Legs}
 use Rattle.ssim_outbox.specs.Route.{same_times}
 
 -- ---- leg lines

@@ -15,6 +15,7 @@ use Rattle.ssim_difference.specs.Differences.{Compared, DifferencePiece}
 use Rattle.ssim_outbox.specs.clauses.Acting.{ActEach}
 use Rattle.ssim_outbox.specs.Acting.{ActOnTheirDates}
 use Rattle.ssim_outbox.specs.Reach.{IsSaid, Reach, after_all}
+use Rattle.ssim_outbox.specs.PlanOrder.{DoNotOverlap, names_date}
 use Rattle.ssim_outbox.specs.Published.{Leave, NamesDifferences}
 use Rattle.ssim_outbox.specs.declared.draft.PlanDraft.{PlanDraft}
 use Rattle.ssim_outbox.specs.declared.flight_change.FlightChange.{FlightChange}
@@ -55,7 +56,13 @@ ActOnEach rows actions flight period before =
     (n : ℕ) → n < day_count → n < length (days_in before flight) → holds period n ≡ true
     → ActEach rows n actions (on_day (days_in before flight) n)
 
--- the sub-messages so far lead from the old timetable towards the new one
+-- if sub-messages name a date of a flight, these days have what the new ones have on it
+abbrev pub MakeNamed : FlightNumber → ℕ → Days → Days → List PlannedSub → Type 0
+MakeNamed flight day days new subs = AllByRecursion
+    (λ sub. names_date flight day sub ≡ true → on_day days day ≡ on_day new day) subs
+
+-- The sub-messages so far lead from the old timetable towards the new one. Of each date that they
+-- name they make what the new one has.
 pub record IsDraft (rows : List Row) (old new : FlightNumber → Days) (draft : PlanDraft) : Type 0 where
   pub leave : Leave rows draft.subs.items old (days_in draft.schedule)
   pub said : AllByRecursion (λ sub. IsSaid sub.action) draft.subs.items
@@ -66,6 +73,9 @@ pub record IsDraft (rows : List Row) (old new : FlightNumber → Days) (draft : 
   pub between : (flight : FlightNumber) (day : ℕ) → IsFlight flight → day < day_count
       → (on_day (days_in draft.schedule flight) day ≡ on_day (new flight) day)
       ⊎ (on_day (days_in draft.schedule flight) day ≡ on_day (old flight) day)
+  pub made : (flight : FlightNumber) (day : ℕ) → IsFlight flight → day < day_count
+      → MakeNamed flight day (days_in draft.schedule flight) (new flight) draft.subs.items
+  pub apart : DoNotOverlap draft.subs.items
 
 -- nothing is left to say of the date: the new itinerary is made, or no messages can make it
 abbrev pub IsSettled :
@@ -117,7 +127,8 @@ dates_of_flights flights g n =
 
 -- a flight with these itineraries has the new one on the day, where it had another one before
 abbrev pub IsMadeOn : Days → Days → Days → ℕ → Type 0
-IsMadeOn made old new day = (on_day made day ≡ on_day new day) × (on_day old day ≢ on_day new day)
+IsMadeOn made before new day =
+    (on_day made day ≡ on_day new day) × (on_day before day ≢ on_day new day)
 
 -- the itineraries of the flight are those of an old and a new timetable
 pub record IsChangeOf (old new : FlightNumber → Days) (change : FlightChange) : Type 0 where

@@ -7,7 +7,7 @@ use Rattle.ssim_outbox.proofs.made_dates.is_made.Given as goal
 
 abbrev pub invariant-loop-first : goal.invariant-loop-first
 invariant-loop-first l = (n : ℕ) → n < l.first → n < day_count → holds l.period n ≡ true
-    → IsMadeOn (days_in l.made l.change.flight) l.change.old.days l.change.new.days n
+    → IsMadeOn (days_in l.made l.change.flight) (days_in l.before l.change.flight) l.change.new.days n
 
 abbrev pub decreases-loop-first : goal.decreases-loop-first
 decreases-loop-first l = l.end - l.first

@@ -8,4 +8,4 @@ use Rattle.ssim_outbox.proofs.made_dates.is_made_between.Given as goal
 abbrev pub invariant-loop-number : goal.invariant-loop-number
 invariant-loop-number l = (n : ℕ) → l.first ≤ n → n < l.number → n < day_count
     → holds l.period n ≡ true
-    → IsMadeOn (days_in l.made l.change.flight) l.change.old.days l.change.new.days n
+    → IsMadeOn (days_in l.made l.change.flight) (days_in l.before l.change.flight) l.change.new.days n

@@ -1,6 +1,5 @@
 -- One part more.
 use Rattle.std.proofs.Common.{◌≡◌, ◌∙◌, ℕ, ap, sym, subst, arith}
-use Rattle.ssim_periods.specs.Days.{each_day}
 use Rattle.ssim_periods.proofs.DayLemmas.{each_day-same}
 use Rattle.ssim_base.specs.Timetable.{Legs}
 use Rattle.ssim_difference.specs.Differences.{DifferencePiece}
