@@ -53,6 +53,7 @@ class Tab {
       this.errors.push(exception?.description ?? text);
     }
     if (method === 'Network.requestWillBeSent') this.requests.push(params.request.url);
+    if (method === 'Page.domContentEventFired') this.ready?.();
     if (method === 'Page.loadEventFired') this.loaded?.();
   }
 
@@ -125,7 +126,12 @@ export class Browser {
     const ended = new Promise(resolve => this.process.on('exit', resolve));
     this.pipe.send('Browser.close').catch(() => {});
     await Promise.race([ended, sleep(5000)]);
-    this.process.kill();
-    fs.rmSync(this.folder, {recursive: true, force: true, maxRetries: 10, retryDelay: 200});
+    this.process.kill('SIGKILL');
+    await Promise.race([ended, sleep(5000)]);
+    try {
+      fs.rmSync(this.folder, {recursive: true, force: true, maxRetries: 50, retryDelay: 200});
+    } catch (error) {
+      console.error(`${this.folder} stays: ${error.code}`);
+    }
   }
 }

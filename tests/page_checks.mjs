@@ -179,6 +179,38 @@ async function keys() {
   quiet('keys', tab);
 }
 
+// Many flights are laid out in parts: in the end it is those that fit the words, in order.
+const VISIBLE = "[...document.querySelectorAll('#timetable article')].filter(e => e.checkVisibility()).map(e => e.id).join(' ')";
+const laidOut = tab => tab.value(`new Promise(resolve => {
+  const look = () => laid < shown.length ? setTimeout(look, 50) : resolve(${VISIBLE});
+  look();
+})`);
+
+async function parts() {
+  const tab = await opened('weeks.html');
+  const all = await laidOut(tab);
+  is('all flights are laid out', [all.split(' ').length, all], [1240, await shown(tab)]);
+  for (const typed of ['12', '24MAY25', '7 mon', '12']) {
+    const fit = await search(tab, typed);
+    is(`those that fit ${typed}`, await laidOut(tab), fit);
+  }
+  is('some fit', (await shown(tab)).split(' ').length < 1240, true);
+  is('all again', await search(tab, '') && await laidOut(tab), all);
+  await click(tab, '[data-sort=Times]');
+  const sorted = await laidOut(tab);
+  is('all in another order', [sorted, sorted === all], [await shown(tab), false]);
+  quiet('parts', tab);
+  const last = all.split(' ').at(-1), other = await opened('weeks.html', `#${last}`);
+  is('the last flight by address', await other.value(`(() => {
+    const box = document.getElementById('${last}').getBoundingClientRect();
+    return [box.height > 100, box.top > 0 && box.top < innerHeight];
+  })()`), [true, true]);
+  const print = await opened('weeks.html');
+  is('all flights are printed', await print.value(`(dispatchEvent(new Event('beforeprint')), ${VISIBLE})`), all);
+  is('and filled', await print.value('flights.every(f => f.filled)'), true);
+  quiet('printed', print);
+}
+
 // ---- day, network, addresses
 
 async function day() {
@@ -189,7 +221,7 @@ async function day() {
   is('station in the address', await tab.value('location.hash'), '#day?date=24MAY27&at=LHR');
   await set(tab, 'select', '', 'change');
   is('all stations', await tab.value('location.hash'), '#day?date=24MAY27&at=');
-  is('all flights of a date', [await count(tab, '.halves'), await count(tab, '#day .row')],
+  is('all flights of a date', [await count(tab, '.halves'), await count(tab, '#day .row:not(.off)')],
     [0, await tab.value("flights.filter(f => f.on(day('24MAY27'))).length")]);
   await tab.value("document.querySelector('[data-go=\"1\"]').focus()");
   await click(tab, '[data-go="1"]');
@@ -220,14 +252,14 @@ async function network() {
 
 async function addresses() {
   const tab = await opened('desk.html');
-  is('views', await texts(tab, 'nav a'), ['Timetable', 'Day', 'Network']);
   await goTo(tab, '#network');
   await goTo(tab, '#day?date=24MAY27&at=FDH');
   await tab.value('history.back()');
   await sleep(200);
   is('back', await tab.value('state.view'), 'network');
-  await goTo(tab, '#messages');
-  is('a view that is not there', await tab.value('state.view'), 'timetable');
+  const season = await opened('season.html', '#messages');
+  is('a view that is not there', [await season.value('state.view'), await texts(season, 'nav a')],
+    ['timetable', ['Timetable', 'Day', 'Network']]);
   const other = await opened('desk.html', '#timetable?q=kef&open=Z7232');
   is('an address shows the same', [await shown(other), await texts(other, 'article.open h3')], ['Z7231 Z7232', ['Z7232']]);
   quiet('addresses', tab);
@@ -246,6 +278,34 @@ async function hostileBytes() {
     ['"\'>', '&lt', '<b>', '\ufffd\ufffd<'].sort());
   is('flights', await tab.value('flights.length'), 41);
   quiet('hostile bytes', tab);
+  const desk = await opened('hostile_desk.html', '#changes');
+  const lines = printed('diff', 'hostile.ssim', 'hostile.desk').slice(1, 3);
+  is('no markup in a change', await texts(desk, '#changes pre'), [lines.join(' ')]);
+  is('aircraft type of a change', await desk.value('changes[0].before[0].type'), lines[0].slice(-3));
+  await goTo(desk, '#messages');
+  is('no markup in a message', await texts(desk, '#messages pre'), [printed('texts', 'hostile.desk').join(' ').replace(/ +/g, ' ')]);
+  await goTo(desk, '#day?date=24MAY27&at=FDH');
+  is('no markup of messages', [await count(desk, 'img,script,s'), await count(desk, 'section'), await count(desk, 'b>b')], [2, 5, 0]);
+  quiet('hostile messages', desk);
+}
+
+// The periods and the different legs of each flight, of lines of a flight's name or key and what it has.
+function partsOf(lines) {
+  const parts = {};
+  for (const [name, line] of lines) {
+    const flight = parts[name] ??= {periods: [], legs: []};
+    if (line.length === 23) flight.periods.push(line);
+    else if (line.length > 23) flight.legs.push(line.slice(0, 51));
+  }
+  for (const flight of Object.values(parts)) flight.legs = [...new Set(flight.legs)].sort();
+  return parts;
+}
+function listed(file) {
+  let name;
+  return printed('list', file).map(line => {
+    if (!line.startsWith(' ')) name = line.split(' ')[0];
+    return [name, line.startsWith(' ') ? line.trim() : line.slice(name.length + 1)];
+  });
 }
 
 async function withoutScript() {
@@ -253,21 +313,73 @@ async function withoutScript() {
   const {root} = await tab.call('DOM.getDocument', {depth: 0});
   const nodes = async selector => (await tab.call('DOM.querySelectorAll', {nodeId: root.nodeId, selector})).nodeIds;
   is('articles without script', [(await nodes('#timetable article')).length, (await nodes('#timetable pre')).length], [42, 42]);
-  const [first] = await nodes('#Z7341 pre');
-  const {outerHTML} = await tab.call('DOM.getOuterHTML', {nodeId: first});
-  const periods = printed('list', 'fdh.desk', 'Z7341').filter(line => line.startsWith('Z')).map(line => line.slice(6));
-  const lines = outerHTML.replace(/<.?pre>/g, '').split('\n').filter(line => line.length === 25).map(line => line.slice(2));
-  is('periods as list', lines, periods);
+  const lines = [];
+  for (const nodeId of await nodes('#timetable article')) {
+    const {outerHTML} = await tab.call('DOM.getOuterHTML', {nodeId});
+    const [, name, rows] = outerHTML.match(/id="(\w+)"[^]*<pre>\n?([^]*)\n<\/pre>/);
+    lines.push(...rows.split('\n').map(row => [name, row.slice(row.indexOf(' ') + 1)]));
+  }
+  is('periods and legs as list', partsOf(lines), partsOf(listed('fdh.desk')));
+  const changes = printed('diff', 'season.ssim', 'fdh.desk').slice(0, -1).filter(line => line.startsWith('Z'));
+  const messages = printed('texts', 'fdh.desk').filter(line => /^(SSM|ASM)$/.test(line));
+  is('changes and messages without script', [(await nodes('#changes pre')).length, (await nodes('#messages pre')).length],
+    [changes.length, messages.length]);
+  const hidden = [];
+  for (const nodeId of await nodes('pre')) {
+    const box = await tab.call('DOM.getBoxModel', {nodeId}).catch(() => undefined);
+    if (!(box?.model.height > 0)) hidden.push(nodeId);
+  }
+  is('all is in sight', hidden, []);
+  quiet('without script', tab);
 }
 
-// ---- changes and messages, on a page with their sections
+// ---- changes and messages
+
+// The changes of a page as `diff` prints them, before the script dresses them.
+async function changesAsDiff(page, from, to) {
+  const tab = await opened(page);
+  const lines = await tab.value("changes.flatMap(c => [[c.name, ...c.mark.split('+')].join(' '), ...c.lines])");
+  is(`${page}: changes as diff`, lines, printed('diff', from, to).slice(0, -1));
+  quiet(page, tab);
+}
+
+// The messages of a page as `texts` and `findings` print them.
+async function messagesAsPrinted(page, file) {
+  const tab = await opened(page);
+  const all = await tab.value("[...document.querySelectorAll('#messages pre')].map(e => e.textContent).join('\\n').trimEnd().split('\\n')");
+  is(`${page}: messages as texts`, all, printed('texts', file));
+  const found = await tab.value(`[...document.querySelectorAll('#messages li')].map(li => {
+    const words = li.textContent.trim().split(' '), article = li.closest('article');
+    const number = [...article.querySelectorAll('li')].indexOf(li) + 1;
+    return [article.querySelector('h3').textContent, number, words[0], words[1], ...words.slice(5)].join(' ');
+  })`);
+  is(`${page}: sub-messages as findings`, found, printed('findings', file));
+  const marks = await tab.value("[...document.querySelectorAll('#messages article')].map(e => [e.id, e.querySelector('h3').textContent])");
+  is(`${page}: marks`, marks.filter(([id, name]) => id !== name.replace(/ /g, '-')), []);
+  const ids = await tab.value("[...document.querySelectorAll('[id]')].map(e => e.id)");
+  is(`${page}: each id once`, new Set(ids).size, ids.length);
+  quiet(page, tab);
+}
+
+async function printedSections() {
+  await changesAsDiff('desk.html', 'season.ssim', 'fdh.desk');
+  await changesAsDiff('gone.html', 'season.ssim', 'gone.desk');
+  await changesAsDiff('between.html', 'fdh.desk', 'gone.desk');
+  await changesAsDiff('utc_desk.html', 'utc.ssim', 'utc.desk');
+  await messagesAsPrinted('desk.html', 'fdh.desk');
+  await messagesAsPrinted('between.html', 'gone.desk');
+  await messagesAsPrinted('utc_desk.html', 'utc.desk');
+  const same = await opened('same.html');
+  is('no changes', await texts(same, 'nav a'), ['Timetable', 'Day', 'Messages', 'Network']);
+  quiet('no changes', same);
+}
 
 async function changes() {
-  const tab = await opened('sections.html', '#changes');
+  const tab = await opened('desk.html', '#changes');
   is('changes', await tab.value("changes.map(c => c.name + ' ' + c.what)"), ['Z7103 cancelled', 'Z7104 cancelled', 'Z7121 times',
     'Z7122 times', 'Z7231 route', 'Z7301 times', 'Z7311 cancelled', 'Z7312 cancelled', 'Z7341 aircraft', 'Z7341 cancelled',
     'Z7341 aircraft', 'Z7342 aircraft', 'Z7401 times, aircraft', 'Z7501 times', 'Z7601 new', 'Z7601 new']);
-  is('words that differ', await tab.value("[...changes.find(c => c.name === 'Z7231').element.querySelectorAll('li b')].map(e => e.textContent)"),
+  is('words that differ', await tab.value("[...changes.find(c => c.name === 'Z7231').element.querySelectorAll('pre b')].map(e => e.textContent)"),
     ['HAM', '0945', '0945', 'BER', '1000', '1000', 'HAM', '1040', '1040', '1200', '1200', 'BER', '1050', '1050', '1225', '1225']);
   await goTo(tab, '#day?date=24MAY27&at=FDH');
   is('cancelled', (await texts(tab, 'tr.off')).map(row => row.replace(/ /g, '')), ['17:30Z7103HAM19:20AT7cancelled']);
@@ -284,10 +396,13 @@ async function changes() {
   await goTo(gone, '#day?date=18JUN27&at=FDH');
   is('gone on its day', [await count(gone, 'tr.off'), await count(gone, '.row.off')], [1, 2]);
   quiet('gone', gone);
+  const utc = await opened('utc_desk.html', '#day?date=24MAY27&at=FDH');
+  is('was, in UTC', (await texts(utc, '.note')).filter(Boolean), ['was 08:30', 'changed: times']);
+  quiet('changes in UTC', utc);
 }
 
 async function messages() {
-  const tab = await opened('sections.html', '#messages');
+  const tab = await opened('desk.html', '#messages');
   is('views', await texts(tab, 'nav a'), ['Timetable', 'Day', 'Changes', 'Messages', 'Network']);
   const texts_ = printed('texts', 'fdh.desk').filter(line => /^(SSM|ASM)$/.test(line));
   is('messages', await count(tab, '#messages article:not([hidden])'), texts_.length);
@@ -314,8 +429,8 @@ async function messages() {
 const PICTURES = [['desk.html', '', 'page.png'], ['desk.html', '#Z7301', 'page_flight.png'],
   ['desk.html', '#day?date=24MAY27&at=FDH', 'page_day.png'], ['desk.html', '#network', 'page_dark.png', {dark: true}],
   ['desk.html', '', 'page_phone.png', {width: 390, height: 844, scale: 2, mobile: true}],
-  ['sections.html', '#changes', 'page_changes.png'], ['desk.html', '', 'page_without_script.png', {script: false}],
-  ['weeks.html', '', 'page_weeks.png', {date: '2025-05-24T09:20:00Z'}],
+  ['desk.html', '#changes', 'page_changes.png'], ['desk.html', '', 'page_without_script.png', {script: false}],
+  ['desk.html', '#messages', 'page_messages.png'], ['weeks.html', '', 'page_weeks.png', {date: '2025-05-24T09:20:00Z'}],
   ['desk.html', '#Z7341', 'page_print.png', {print: true, width: 1050, height: 740}]];
 
 async function draw() {
@@ -331,7 +446,8 @@ async function main() {
   const days = ['28MAR27', '17MAY27', '24MAY27', '15JUN27', '16JUN27', '03JUL27', '29OCT27', '05NOV27'];
   await boards('desk.html', 'fdh.desk', days);
   await boards('utc.html', 'utc.ssim', ['28MAR27', '29MAR27', '15JUN27', '16JUN27', '30OCT27']);
-  for (const check of [words, sorting, flights, keys, day, network, addresses, hostileBytes, withoutScript, changes, messages]) {
+  const checks = [words, sorting, flights, keys, parts, day, network, addresses, hostileBytes, withoutScript, printedSections, changes, messages];
+  for (const check of checks) {
     try {
       await check();
     } catch (error) {

@@ -2,18 +2,17 @@
 """Looks at pages in a browser: page_in_browser.py PROGRAM [FOLDER]
 
 It needs `chromium` and `node`, installs nothing, and is not part of the gate: if one of them is missing it says so, and passes nothing.
-The pages are those that the program prints of the samples (a desk after the texts of the tutorial, a data set with markup in every carried
-field, one in UTC) and of 1,240 flights. `page_checks.mjs` tries on them what `docs/FORMATS.md` and the views promise: boards as `board`,
-dates as `list --dates`, the search, keys, addresses, and that no markup comes of data. The views of changes and messages are tried on the
-page of the desk with the sections that `page_sections.py` adds. With FOLDER it draws pictures there. The last line is 'N passed, M failed'.
+The pages are those that the program prints: of the samples (a desk after the texts of the tutorial, one after a message more, the data set,
+one in UTC and its desk, one with markup in every carried field and its desk), of two desks, and of 1,240 flights. `page_checks.mjs` tries on
+them what `docs/FORMATS.md` and the views promise: boards as `board`, dates as `list --dates`, changes as `diff`, messages as `texts` and
+`findings`, the search, keys, addresses, and that no markup comes of data. With FOLDER it draws pictures there. The last line is 'N passed,
+M failed'.
 """
 import os
 import shutil
 import subprocess
 import sys
 import tempfile
-
-import page_sections
 
 TESTS = os.path.dirname(os.path.abspath(__file__))
 TOP = os.path.dirname(TESTS)
@@ -22,6 +21,17 @@ TEXTS = ["01-holiday.ssm", "02-new-times.ssm", "03-larger-aircraft.ssm", "04-new
          "06-one-date-cancelled.asm", "07-put-back.asm", "08-late.ssm", "09-holiday-again.ssm", "10-hamburg-night.ssm",
          "11-hamburg-times.asm", "12-open-end.ssm"]
 GONE = b"ASM\nLT\n01APR00009E001\nCNL\nZ7101D/18JUN27\n"
+LATER_IN_UTC = b"SSM\nUTC\n01APR00009E001\nTIM\nZ7101\n24MAY27 24MAY27 1\nFDH0455 HAM0640\n"
+HOSTILE = b"""SSM
+LT
+01APR00009E001/<b>&<img src=x onerror=1>
+CNL
+Z7103
+24MAY 24MAY 1
+//
+SI </pre><script>alert(1)</script>
+&lt;
+"""
 
 
 class Room:
@@ -42,15 +52,14 @@ class Room:
         with open(self.path(name), "wb") as file:
             file.write(data)
 
-    def page(self, name, file):
-        """Writes the page of a file."""
-        self.write(name, self.run("page", file).encode("ascii"))
+    def page(self, name, *files):
+        """Writes the page of a file, or of two."""
+        self.write(name, self.run("page", *files).encode("ascii"))
 
-    def page_with_sections(self, name, base, desk):
-        """Writes the page of a desk with sections for its changes and messages."""
-        page = self.run("page", desk)
-        added = page_sections.sections(self.run, base, desk)
-        self.write(name, page.replace("</section>\n", "</section>\n" + added, 1).encode("ascii"))
+    def desk(self, name, data_set, *texts):
+        """Writes the desk file of a data set after texts."""
+        self.run("start", data_set, os.path.join(SAMPLES, "stations.txt"), name)
+        self.run("take", name, name, *texts)
 
 
 def hostile(data):
@@ -81,17 +90,18 @@ def make(room):
     room.write("season.ssim", season)
     room.write("hostile.ssim", hostile(season))
     room.write("utc.ssim", in_utc(season))
-    room.write("gone.asm", GONE)
+    for name, text in (("gone", GONE), ("later", LATER_IN_UTC), ("markup", HOSTILE)):
+        room.write(name, text)
     subprocess.run([sys.executable, os.path.join(TOP, "make", "shapes.py"), "weeks", room.path("weeks.ssim"), "1240"], check=True)
-    room.run("start", "season.ssim", os.path.join(SAMPLES, "stations.txt"), "base.desk")
-    room.run("take", "base.desk", "fdh.desk", *[os.path.join(SAMPLES, "texts", name) for name in TEXTS])
+    room.desk("fdh.desk", "season.ssim", *[os.path.join(SAMPLES, "texts", name) for name in TEXTS])
     room.run("receive", "fdh.desk", "fdh.desk", os.path.join(SAMPLES, "mail.txt"))
-    room.run("take", "fdh.desk", "gone.desk", "gone.asm")
-    for name, file in (("season", "season.ssim"), ("desk", "fdh.desk"), ("hostile", "hostile.ssim"), ("utc", "utc.ssim"),
-                       ("weeks", "weeks.ssim")):
-        room.page(name + ".html", file)
-    room.page_with_sections("sections.html", "base.desk", "fdh.desk")
-    room.page_with_sections("gone.html", "base.desk", "gone.desk")
+    room.run("take", "fdh.desk", "gone.desk", "gone")
+    room.desk("utc.desk", "utc.ssim", "later")
+    room.desk("hostile.desk", "hostile.ssim", "markup")
+    for name, *files in (("season", "season.ssim"), ("desk", "fdh.desk"), ("gone", "gone.desk"), ("between", "fdh.desk", "gone.desk"),
+                         ("same", "fdh.desk", "fdh.desk"), ("hostile", "hostile.ssim"), ("hostile_desk", "hostile.desk"),
+                         ("utc", "utc.ssim"), ("utc_desk", "utc.desk"), ("weeks", "weeks.ssim")):
+        room.page(name + ".html", *files)
 
 
 def main():
@@ -104,6 +114,8 @@ def main():
     with tempfile.TemporaryDirectory() as folder:
         room = Room(os.path.abspath(sys.argv[1]), folder)
         make(room)
+        for pictures in sys.argv[2:]:
+            os.makedirs(pictures, exist_ok=True)
         words = ["node", os.path.join(TESTS, "page_checks.mjs"), room.program, folder, *map(os.path.abspath, sys.argv[2:])]
         return subprocess.run(words, check=False).returncode
 

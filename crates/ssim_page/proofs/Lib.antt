@@ -1,2 +1,3 @@
 pub mod Joining
-pub mod Lists
+pub mod PlainText
+pub mod RowMarks

@@ -6,9 +6,9 @@ use Rattle.ssim_values.specs.Period.{DayRange}
 use Rattle.ssim_base.specs.Export.{Piece, line, same_itinerary}
 use Rattle.ssim_base.specs.Timetable.{LegValue, Legs}
 use Rattle.ssim_listing.specs.Lines.{period_text}
-use Rattle.ssim_listing.specs.Marks.{mark_text}
+use Rattle.ssim_listing.specs.Marks.{is_like_one_by, mark_text}
 use Rattle.ssim_calendar.specs.Letters.{letter_at, new_values, place_of}
-use Rattle.ssim_page.specs.LegRow.{is_like_one, leg_row}
+use Rattle.ssim_page.specs.LegRow.{leg_row}
 
 -- ---- itineraries and their keys
 
@@ -31,7 +31,7 @@ key_of all legs = key_at (place_of same_itinerary all legs)
 -- same row, but differs from it.
 abbrev pub leg_line : List ℕ → Legs → LegValue → List ℕ
 leg_line key others leg =
-    key ++ codes " " ++ leg_row leg ++ mark_text (is_like_one others leg) ++ codes "\n"
+    key ++ codes " " ++ leg_row leg ++ mark_text (is_like_one_by leg_row others leg) ++ codes "\n"
 
 -- the line of a period of the itinerary with this key: first day, last day and days of operation
 abbrev pub period_line : List ℕ → DayRange → List ℕ

@@ -1,11 +1,9 @@
 -- What the page shows of a leg.
-use Rattle.std.specs.Prelude.{ℕ, Bool, not, ◌&&◌, ◌==◌, if◌then◌else◌, List, [], ◌∷◌, ◌++◌, codes}
-use Rattle.std.specs.List.{flat_map, list_any}
-use Rattle.std.specs.Str.{bytes_eq}
+use Rattle.std.specs.Prelude.{ℕ, ◌==◌, if◌then◌else◌, List, [], ◌∷◌, ◌++◌, codes}
+use Rattle.std.specs.List.{flat_map}
 use Rattle.ssim_text.specs.Left.{without_end}
 use Rattle.ssim_records.specs.Leg.{leg_columns}
-use Rattle.ssim_base.specs.Export.{same_leg}
-use Rattle.ssim_base.specs.Timetable.{LegValue, Legs}
+use Rattle.ssim_base.specs.Timetable.{LegValue}
 use Rattle.ssim_listing.specs.LegText.{leg_text}
 use Rattle.ssim_page.specs.Html.{escaped, escaped_byte}
 
@@ -34,11 +32,3 @@ shown_line leg = escaped (leg_text leg)
 -- The row of a leg: the line that `show` prints, and four words.
 unfoldable pub leg_row : LegValue → List ℕ
 leg_row leg = shown_line leg ++ words leg.columns
-
--- whether two legs have the same row, but differ
-abbrev pub is_like : LegValue → LegValue → Bool
-is_like other leg = bytes_eq (leg_row other) (leg_row leg) && not (same_leg other leg)
-
--- whether one of the legs has the same row as this one, but differs from it
-abbrev pub is_like_one : Legs → LegValue → Bool
-is_like_one legs leg = list_any (λ other. is_like other leg) legs

@@ -2,5 +2,9 @@ pub mod Html
 pub mod LegRow
 pub mod Flight
 pub mod Timetable
+pub mod Link
+pub mod Changes
+pub mod Messages
 pub mod Page
 pub mod examples
+pub mod internal

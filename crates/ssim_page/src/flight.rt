@@ -1,33 +1,36 @@
 //! A flight on the page: the legs of its different itineraries, and its periods.
 
-ghost use Rattle.std.specs.Prelude.{◌≡◌, ◌++◌, OnOk, map};
+ghost use Rattle.std.specs.Prelude.{◌≡◌, ◌++◌, OnOk};
 ghost use Rattle.std.specs.List.{flat_map};
-ghost use Rattle.ssim_page.specs.Flight.{all_legs, article, article_title, flight_lines, key_of};
-ghost use Rattle.ssim_page.specs.Flight.{leg_line, lines_among, period_line};
+ghost use Rattle.ssim_listing.specs.clauses.Groups.{group_in, is_mixed};
+ghost use Rattle.ssim_page.specs.Flight.{article, article_title, flight_lines, key_of};
+ghost use Rattle.ssim_page.specs.Flight.{lines_among, piece_line};
+ghost use Rattle.ssim_page.specs.internal.RowLines.{row_line, row_lines};
 
 use crate::key::{itineraries, key_of};
-use crate::leg_row::{LegRow, is_like_one, leg_rows, row_of};
+use crate::leg_row::{push_row, row_groups};
+use ssim_calendar::DistinctValues;
 use ssim_lines::{Printed, push_each};
-use ssim_listing::{mark_of, push_period};
+use ssim_listing::{LegGroups, are_mixed, mark_of, push_period};
 use ssim_schedule::{Itinerary, PlacedLeg};
 use ssim_values::{Memory, Period};
 use std::alloc::Global;
 
-/// The different itineraries of a flight, by which its lines have their keys, and the rows of their
-/// legs, by which these are marked.
+/// The different itineraries of a flight, by which its lines have their keys, and the groups of their
+/// legs by row, by which these are marked.
 #[derive(Clone, Copy)]
-struct FlightLegs<'a, 'b> {
+struct KeyedFlight<'a, 'b> {
     alloc: Global,
-    found: &'a [Itinerary],
-    rows: &'b [LegRow<'a>],
+    found: &'b DistinctValues<'a, Itinerary>,
+    groups: &'b LegGroups<'a>,
 }
 
-/// The key of an itinerary, and the rows of the legs of its flight.
+/// The key of an itinerary, and the groups of the legs of its flight.
 #[derive(Clone, Copy)]
 struct KeyedLegs<'a, 'b, 'c> {
     alloc: Global,
     key: &'c [u8],
-    rows: &'b [LegRow<'a>],
+    groups: &'b LegGroups<'a>,
 }
 
 /// Adds the article of a flight with this name.
@@ -69,65 +72,74 @@ fn push_lines(
     ensures { OnOk result (page.new.items ≡ page.old.items ++ flight_lines pieces.now) }
 {
     let found = itineraries(alloc, pieces)?;
-    push_lines_among(alloc, page, found.as_slice(), pieces)
+    push_lines_among(alloc, page, &found, pieces)
 }
 
 // Adds the lines of different itineraries, and those of pieces.
-fn push_lines_among(
+fn push_lines_among<'a>(
     alloc: Global,
     page: &mut Vec<u8>,
-    found: &[Itinerary],
-    pieces: &[(Period, Itinerary)],
+    found: &DistinctValues<'a, Itinerary>,
+    pieces: &'a [(Period, Itinerary)],
 ) -> Result<(), Memory>
     ensures { OnOk result
         (page.new.items ≡ page.old.items ++ lines_among found.now pieces.now) }
 {
-    let rows = leg_rows(alloc, found)?;
-    let legs = FlightLegs {
+    let groups = row_groups(alloc, found.values())?;
+    let flight = KeyedFlight {
         alloc,
         found,
-        rows: rows.as_slice(),
+        groups: &groups,
     };
-    push_each(page, &legs, found)?;
-    push_each(page, &legs, pieces)
+    push_each(page, &flight, found.values())?;
+    push_periods(alloc, page, found, pieces)
 }
 
-impl Printed<FlightLegs<'_, '_>> for Itinerary {
-    ghost text = { λ flight legs. flat_map
-        (leg_line (key_of flight.found.now legs) (map (λ row. row.leg.now) flight.rows.now)) legs };
+impl<'a> Printed<KeyedFlight<'a, '_>> for &'a Itinerary {
+    ghost text = { λ flight legs. row_lines (λ row. is_mixed (group_in flight.groups.now row))
+        (key_of flight.found.now legs.now) legs.now };
 
     // Adds the line of each leg of an itinerary.
-    fn print(&self, flight: &FlightLegs<'_, '_>, page: &mut Vec<u8>) -> Result<(), Memory> {
-        let key = key_of(flight.alloc, flight.found, self)?;
+    fn print(&self, flight: &KeyedFlight<'a, '_>, page: &mut Vec<u8>) -> Result<(), Memory> {
+        let key = key_of(flight.alloc, flight.found, *self)?;
         let legs = KeyedLegs {
             alloc: flight.alloc,
             key: key.as_slice(),
-            rows: flight.rows,
+            groups: flight.groups,
         };
         push_each(page, &legs, self.legs())
     }
 }
 
-impl Printed<FlightLegs<'_, '_>> for (Period, Itinerary) {
-    ghost text = { λ flight piece. period_line (key_of flight.found.now piece.1) piece.0 };
-
-    // Adds the line of a piece.
-    fn print(&self, flight: &FlightLegs<'_, '_>, page: &mut Vec<u8>) -> Result<(), Memory> {
-        let key = key_of(flight.alloc, flight.found, &self.1)?;
-        push_period(page, key.as_slice(), self.0)
+// Adds the line of each piece.
+fn push_periods<'a>(
+    alloc: Global,
+    page: &mut Vec<u8>,
+    found: &DistinctValues<'a, Itinerary>,
+    pieces: &'a [(Period, Itinerary)],
+) -> Result<(), Memory>
+    ensures { OnOk result
+        (page.new.items ≡ page.old.items ++ flat_map (piece_line found.now) pieces.now) }
+{
+    for piece in pieces {
+        let key = key_of(alloc, found, &piece.1)?;
+        push_period(page, key.as_slice(), piece.0)?;
     }
+    Ok(())
 }
 
 impl Printed<KeyedLegs<'_, '_, '_>> for PlacedLeg {
-    ghost text = { λ legs leg. leg_line legs.key.now (map (λ row. row.leg.now) legs.rows.now) leg };
+    ghost text = { λ legs leg.
+        row_line (λ row. is_mixed (group_in legs.groups.now row)) legs.key.now leg };
 
     // Adds the line of a leg.
     fn print(&self, legs: &KeyedLegs<'_, '_, '_>, page: &mut Vec<u8>) -> Result<(), Memory> {
-        let row = row_of(legs.alloc, self)?;
         page.extend_from_slice(legs.key)?;
         page.push(b' ')?;
-        page.extend_from_slice(row.as_slice())?;
-        page.extend_from_slice(mark_of(is_like_one(legs.rows, self, row.as_slice())))?;
+        let begin = page.len();
+        push_row(legs.alloc, page, self)?;
+        let marked = are_mixed(legs.groups, &page[begin..]);
+        page.extend_from_slice(mark_of(marked))?;
         page.push(b'\n')?;
         Ok(())
     }

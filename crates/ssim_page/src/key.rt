@@ -3,7 +3,7 @@
 ghost use Rattle.std.specs.Prelude.{◌≡◌, IfOk};
 ghost use Rattle.ssim_page.specs.Flight.{itineraries, key_at, key_of};
 
-use ssim_calendar::{add_new, letter_at, place_of};
+use ssim_calendar::{DistinctValues, add_new, letter_at, place_of};
 use ssim_lines::written;
 use ssim_schedule::Itinerary;
 use ssim_values::{Memory, Period};
@@ -14,24 +14,24 @@ use std::io::Write;
 const LETTERS: usize = 52;
 
 /// The different itineraries of the pieces of a flight, by first date.
-pub(crate) fn itineraries(
+pub(crate) fn itineraries<'a>(
     alloc: Global,
-    pieces: &[(Period, Itinerary)],
-) -> Result<Vec<Itinerary>, Memory>
-    ensures { IfOk result (λ found. found.items ≡ itineraries pieces.now) }
+    pieces: &'a [(Period, Itinerary)],
+) -> Result<DistinctValues<'a, Itinerary>, Memory>
+    ensures { IfOk result (λ found. found ≡ itineraries pieces.now) }
 {
-    let mut found = Vec::new(alloc);
+    let mut found = DistinctValues::new(alloc);
     for piece in pieces {
-        add_new(alloc, &mut found, &piece.1)?;
+        add_new(&mut found, &piece.1)?;
     }
     Ok(found)
 }
 
 /// The key of an itinerary among the different ones of its flight.
-pub(crate) fn key_of(
+pub(crate) fn key_of<'a>(
     alloc: Global,
-    found: &[Itinerary],
-    itinerary: &Itinerary,
+    found: &DistinctValues<'a, Itinerary>,
+    itinerary: &'a Itinerary,
 ) -> Result<Vec<u8>, Memory>
     ensures { IfOk result (λ key. key.items ≡ key_of found.now itinerary.now) }
 {

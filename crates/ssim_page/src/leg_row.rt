@@ -1,15 +1,16 @@
 //! What the page shows of a leg.
 
-ghost use Rattle.std.specs.Prelude.{◌≡◌, ◌++◌, IfOk, IsTrue, OnOk, map};
+ghost use Rattle.std.specs.Prelude.{◌≡◌, ◌++◌, ℕ, List, IfOk, IsTrue, OnOk, map};
 ghost use Rattle.ssim_records.specs.clauses.Leg.{is_own};
+ghost use Rattle.ssim_base.specs.Timetable.{Legs};
 ghost use Rattle.ssim_listing.specs.LegText.{leg_text};
+ghost use Rattle.ssim_listing.specs.clauses.Groups.{group_in, group_of};
 ghost use Rattle.ssim_page.specs.Flight.{all_legs};
-ghost use Rattle.ssim_page.specs.LegRow.{is_like, is_like_one, leg_row, shown_line, word};
-ghost use Rattle.ssim_page.specs.LegRow.{word_byte, word_of, words};
+ghost use Rattle.ssim_page.specs.LegRow.{leg_row, shown_line, word, word_byte, word_of, words};
 
-use crate::html::Html;
+use crate::html::{Html, push_escaped};
 use ssim_lines::{Printed, push_each};
-use ssim_listing::push_leg_text;
+use ssim_listing::{LegGroups, add_leg, push_leg_text};
 use ssim_records::leg_fields::{
     ARRIVAL_TERMINAL, BOOKING_DESIGNATORS, CONFIGURATION, DEPARTURE_TERMINAL,
 };
@@ -18,80 +19,66 @@ use ssim_schedule::{Itinerary, PlacedLeg};
 use ssim_text::without_end;
 use ssim_values::Memory;
 use std::alloc::Global;
+use std::collections::BTreeMap;
 
-/// A leg and its row.
-#[derive(Drop)]
-pub(crate) struct LegRow<'a> {
-    leg: &'a PlacedLeg,
-    row: Vec<u8>,
-    ghost printed: { row.items ≡ leg_row leg.now },
-}
+/// How many bytes the line of a leg has that `show` prints.
+const LINE: usize = 51;
+
+/// How many bytes the row of a leg has at most, unless some of its bytes are escaped.
+const ROW: usize = 99;
 
 /// Bytes as one word.
 #[derive(Clone, Copy)]
-struct Word;
+struct LegWord;
 
-/// The rows of the legs of itineraries.
-pub(crate) fn leg_rows<'a>(
+/// The groups of the legs of itineraries by their rows.
+pub(crate) fn row_groups<'a>(
     alloc: Global,
-    itineraries: &'a [Itinerary],
-) -> Result<Vec<LegRow<'a>>, Memory>
-    ensures { IfOk result
-        (λ rows. map (λ row. row.leg.now) rows.items ≡ all_legs itineraries.now) }
+    itineraries: &[&'a Itinerary],
+) -> Result<LegGroups<'a>, Memory>
+    ensures { IfOk result (λ groups. (row : List ℕ) → group_in groups row
+        ≡ group_of leg_row (all_legs (map (λ legs. legs.now) itineraries.now)) row) }
 {
-    let mut rows = Vec::new(alloc);
+    let mut groups = BTreeMap::new(alloc);
     for itinerary in itineraries {
-        add_legs(alloc, &mut rows, itinerary.legs())?;
+        add_legs(alloc, &mut groups, itinerary.legs())?;
     }
-    Ok(rows)
+    Ok(groups)
 }
 
-// Adds the rows of legs.
+// Adds legs to the groups of those before.
 fn add_legs<'a>(
     alloc: Global,
-    rows: &mut Vec<LegRow<'a>>,
+    groups: &mut LegGroups<'a>,
     legs: &'a [PlacedLeg],
 ) -> Result<(), Memory>
-    ensures { OnOk result (map (λ row. row.leg.now) rows.new.items
-        ≡ map (λ row. row.leg.now) rows.old.items ++ legs.now) }
+    ensures { OnOk result ((before : Legs)
+        → ((row : List ℕ) → group_in groups.old row ≡ group_of leg_row before row)
+        → (row : List ℕ) → group_in groups.new row ≡ group_of leg_row (before ++ legs.now) row) }
 {
     for leg in legs {
         let row = row_of(alloc, leg)?;
-        rows.push(LegRow { leg, row })?;
+        add_leg(groups, row, leg)?;
     }
     Ok(())
 }
 
-/// Whether one of the legs has the same row as this one, but differs from it.
-pub(crate) fn is_like_one(rows: &[LegRow<'_>], leg: &PlacedLeg, row: &[u8]) -> bool
-    requires { row.now ≡ leg_row leg.now }
-    ensures { result ≡ is_like_one (map (λ other. other.leg.now) rows.now) leg.now }
-{
-    for other in rows {
-        if is_like(other, leg, row) {
-            return true;
-        }
-    }
-    false
-}
-
-// Whether a leg has the same row as this one, but differs from it.
-fn is_like(other: &LegRow<'_>, leg: &PlacedLeg, row: &[u8]) -> bool
-    requires { row.now ≡ leg_row leg.now }
-    ensures { result ≡ is_like other.now.leg.now leg.now }
-{
-    *other.row == *row && !other.leg.same(leg)
-}
-
-/// The row of a leg.
-#[tactic(auto, unfolding(crate::specs::LegRow::leg_row))]
-pub(crate) fn row_of(alloc: Global, leg: &PlacedLeg) -> Result<Vec<u8>, Memory>
+// The row of a leg.
+fn row_of(alloc: Global, leg: &PlacedLeg) -> Result<Vec<u8>, Memory>
     ensures { IfOk result (λ row. row.items ≡ leg_row leg.now) }
 {
-    let mut row = Vec::new(alloc);
-    push_shown_line(alloc, &mut row, leg)?;
-    push_words(&mut row, &leg.columns())?;
+    let mut row = Vec::with_capacity(alloc, ROW)?;
+    push_row(alloc, &mut row, leg)?;
     Ok(row)
+}
+
+/// Adds the row of a leg.
+#[tactic(auto, unfolding(crate::specs::LegRow::leg_row))]
+pub(crate) fn push_row(alloc: Global, lines: &mut Vec<u8>, leg: &PlacedLeg) -> Result<(), Memory>
+    ensures { OnOk result (lines.new.items ≡ lines.old.items ++ leg_row leg.now) }
+{
+    push_shown_line(alloc, lines, leg)?;
+    push_words(lines, &leg.columns())
 }
 
 // Adds the line of a leg that `show` prints.
@@ -100,14 +87,14 @@ fn push_shown_line(alloc: Global, row: &mut Vec<u8>, leg: &PlacedLeg) -> Result<
     ensures { OnOk result (row.new.items ≡ row.old.items ++ shown_line leg.now) }
 {
     let line = line_of(alloc, leg)?;
-    push_each(row, &Html, &line)
+    push_escaped(row, &line)
 }
 
 // The line of a leg that `show` prints, before it is escaped.
 fn line_of(alloc: Global, leg: &PlacedLeg) -> Result<Vec<u8>, Memory>
     ensures { IfOk result (λ line. line.items ≡ leg_text leg.now) }
 {
-    let mut line = Vec::new(alloc);
+    let mut line = Vec::with_capacity(alloc, LINE)?;
     push_leg_text(&mut line, leg)?;
     Ok(line)
 }
@@ -141,15 +128,15 @@ fn push_word_of(row: &mut Vec<u8>, bytes: &[u8]) -> Result<(), Memory>
             row.push(b'.')?;
             Ok(())
         }
-        Some(_) => push_each(row, &Word, bytes),
+        Some(_) => push_each(row, &LegWord, bytes),
     }
 }
 
-impl Printed<Word> for u8 {
+impl Printed<LegWord> for u8 {
     ghost text = { λ _. word_byte };
 
     // Adds a byte: a full stop for a blank.
-    fn print(&self, _word: &Word, row: &mut Vec<u8>) -> Result<(), Memory> {
+    fn print(&self, _word: &LegWord, row: &mut Vec<u8>) -> Result<(), Memory> {
         if *self == b' ' {
             row.push(b'.')?;
             return Ok(());

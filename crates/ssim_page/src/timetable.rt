@@ -68,8 +68,8 @@ impl Printed<Articles> for FlightPieces {
     }
 }
 
-// Adds a blank and the first day, a blank and the last.
-fn push_days(page: &mut Vec<u8>, days: Option<(Day, Day)>) -> Result<(), Memory>
+/// Adds a blank and the first day, a blank and the last.
+pub(crate) fn push_days(page: &mut Vec<u8>, days: Option<(Day, Day)>) -> Result<(), Memory>
     ensures { OnOk result (page.new.items ≡ page.old.items ++ days_text days) }
 {
     let Some((first, last)) = days else {
