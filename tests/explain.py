@@ -3,14 +3,17 @@
 
 docs/REFUSALS.md has a row for each refusal, whose name, meaning and remedy `explain` prints. No other number has a refusal. A
 file is explained for each number that a file alone may be refused by: the first line has the place, the second the meaning, the
-third what is there, and the last what to do. The byte 1 in any column of any record is explained by the field that it makes invalid. The last
-line is 'N passed, M failed'. With `page` the meanings and remedies of the
+third what is there, and the last what to do. The byte 1 in any column of any record is explained by the field that it makes invalid. Files
+of other programs are named as docs/FORMATS.md has them. The last line is 'N passed, M failed'. With `page` the meanings and remedies of the
 rows are written as `explain` prints them, and nothing is compared.
 """
+import gzip
+import io
 import os
 import re
 import subprocess
 import sys
+import zipfile
 
 from cases import vectors
 
@@ -127,6 +130,39 @@ def there(data, place):
     return f"{'element' if word == 'offset' else word}: [{shown}]\n" if found else ""
 
 
+def zipped(data):
+    """A zip archive of one file; an empty one of none."""
+    made = io.BytesIO()
+    with zipfile.ZipFile(made, "w") as archive:
+        if data:
+            archive.writestr("season.ssim", data)
+    return made.getvalue()
+
+
+def foreign_files():
+    """Files of each kind that other programs make of a data set."""
+    season = vectors()["summer"]
+    text = season.decode("ascii")
+    return [
+        ("gzip", gzip.compress(season)),
+        ("zip", zipped(season)),
+        ("zip", zipped(b"")),
+        ("pdf", b"%PDF-1.4\n" + season),
+        ("utf-16", text.encode("utf-16")),
+        ("utf-16", b"\xfe\xff" + text.encode("utf-16-be")),
+        ("utf-8-mark", text.encode("utf-8-sig")),
+        ("ebcdic", text.encode("cp500")),
+        ("markup", b"\r\n <html><pre>" + season + b"</pre></html>\n"),
+    ]
+
+
+def foreign_answers(program):
+    """What is printed of each foreign file, and what docs/FORMATS.md says of it."""
+    remedies = {name: remedy for _first, name, remedy in rows_from("docs/FORMATS.md", "| First bytes | `foreign` | What to do |")}
+    for name, data in foreign_files():
+        yield f"a file of {name}", f"foreign {name}\nwhat to do: {remedies[name]}\n", printed(program, "-", data)
+
+
 def ends_of(text):
     """The first three lines and the last one."""
     lines = text.splitlines(keepends=True)
@@ -159,6 +195,7 @@ def main():
         first, second, last = expected(number, rows).splitlines()
         wanted = f"{first} {place}\n{second}\n{there(data, place)}{last}\n"
         answers.append((f"a file with {number}", wanted, ends_of(printed(program, "-", data))))
+    answers += foreign_answers(program)
     passed = failed = 0
     for name, good, got in columns_explained(program):
         passed, failed = passed + good, failed + (not good)

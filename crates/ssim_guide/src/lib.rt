@@ -8,7 +8,9 @@
 //! - [`words_on_line`]: those on a line of a text, a station table or a script;
 //!   [`words_on_offset`]: on an element of a desk file.
 //!
-//! The texts are not specified. A test compares those on refusals with the tables of the documents.
+//! **Promise.** A number has an explanation exactly if a command may have a refusal of it. The lines
+//! on a refusal are its name with a meaning, the lines on its place, and what to do. What these texts
+//! say is not specified: a test compares those on refusals with the tables of the documents.
 #![tactic(auto)]
 
 mod explanation;

@@ -1,5 +1,8 @@
 //! Lines of words.
 
+ghost use Rattle.std.specs.Prelude.{◌≡◌, ◌++◌, OnOk};
+ghost use Rattle.ssim_guide.specs.Words.{labelled};
+
 use std::alloc::AllocError;
 use std::io::Write;
 
@@ -7,7 +10,9 @@ use std::io::Write;
 const SHOWN: usize = 200;
 
 /// Adds a line: a label and a text.
-pub(crate) fn push_line(lines: &mut Vec<u8>, label: &str, text: &str) -> Result<(), AllocError> {
+pub(crate) fn push_line(lines: &mut Vec<u8>, label: &str, text: &str) -> Result<(), AllocError>
+    ensures { OnOk result (lines.new.items ≡ lines.old.items ++ labelled label.now text.now) }
+{
     lines.extend_from_slice(label.as_bytes())?;
     lines.extend_from_slice(b": ")?;
     lines.extend_from_slice(text.as_bytes())?;

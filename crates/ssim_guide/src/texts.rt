@@ -1,6 +1,9 @@
 //! The texts on each refusal, in the order of their numbers. `docs/REFUSALS.md` is written from
 //! them.
 
+ghost use Rattle.std.specs.Prelude.{◌≡◌, map};
+ghost use Rattle.ssim_guide.specs.Words.{refusal_numbers};
+
 use crate::explanation::Explanation;
 
 const MESSAGE: &str = "correct the line, or ask the originator for the message again";
@@ -12,22 +15,22 @@ const ONE_AIRLINE: &str = "divide the file: a data set has one airline";
 const UNSUPPORTED: &str = "not supported: split the flight's periods, or write weekly periods";
 
 const TOO_LARGE: &str =
-    "a chapter 7 data set cannot say it: combine the flight's single dates, or divide the data set";
+    "a chapter 7 data set cannot say it: combine the flight's single dates, or select parts of it";
 
 const TABLE: [Explanation; 43] = [
     Explanation {
         number: 1,
-        meaning: "the date is not DDMMMYY, or no day of the calendar",
+        meaning: "the date is not spelled as 05JUN27 or 2027-06-05, or no day of the calendar",
         remedy: "correct the word",
     },
     Explanation {
         number: 3,
-        meaning: "the station is not three letters, A to Z",
+        meaning: "the station is not three letters",
         remedy: "correct the word",
     },
     Explanation {
         number: 6,
-        meaning: "the flight is not spelled as an airline and a flight number",
+        meaning: "the flight is no flight number, with an airline before it or without",
         remedy: "correct the word",
     },
     Explanation {
@@ -72,7 +75,7 @@ const TABLE: [Explanation; 43] = [
     },
     Explanation {
         number: 25,
-        meaning: "service type and aircraft type were expected",
+        meaning: "service type and aircraft type were expected, or a word that is an aircraft type",
         remedy: MESSAGE,
     },
     Explanation {
@@ -162,7 +165,7 @@ const TABLE: [Explanation; 43] = [
     },
     Explanation {
         number: 43,
-        meaning: "the first day of the period is after the last",
+        meaning: "the first day of the period is after the last; 0 for the dates of a command",
         remedy: "correct the date",
     },
     Explanation {
@@ -182,13 +185,13 @@ const TABLE: [Explanation; 43] = [
     },
     Explanation {
         number: 60,
-        meaning: "the desk holds another message under this reference. For merge it is the first such reference",
+        meaning: "the desk holds another message under this reference. For merge and carry it is the first such reference",
         remedy: "one of the two was sent under a wrong reference: ask the originator",
     },
     Explanation {
         number: 61,
-        meaning: "the two desks have different data sets or station tables",
-        remedy: "merge desks of one season",
+        meaning: "the two desks have different data sets or station tables. For carry they have different airlines or time modes",
+        remedy: "merge desks of one season; to a desk of another data set messages are brought by carry",
     },
     Explanation {
         number: 62,
@@ -233,6 +236,8 @@ const TABLE: [Explanation; 43] = [
 ];
 
 /// The rows of the table.
-pub(crate) fn explanations() -> &'static [Explanation] {
+pub(crate) fn explanations() -> &'static [Explanation]
+    ensures { map (λ e. e.number) result.now ≡ refusal_numbers }
+{
     &TABLE
 }
