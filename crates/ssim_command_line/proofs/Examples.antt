@@ -1,7 +1,7 @@
 -- Lines with options, computed: which command the words name.
-use Rattle.std.proofs.Common.{true, false, refl, List, [], ◌∷◌, Some, codes}
+use Rattle.std.proofs.Common.{true, false, refl, List, [], ◌∷◌, Some, None, codes}
 use Rattle.clap.proofs.OnLiterals.{clap_on_literals}
-use Rattle.ssim_command_line.specs.Line.{Listing, Receive}
+use Rattle.ssim_command_line.specs.Line.{Listing, Receive, Select}
 use Rattle.ssim_command_line.specs.Usage.{Names}
 
 -- `list --csv summer.ssim`
@@ -21,3 +21,16 @@ with_refused : Names (codes "ssimdesk" ∷ codes "receive" ∷ codes "--refused"
     (Receive (Some (codes "back")) (codes "fdh.desk") (codes "fdh.desk") (codes "mail" ∷ []))
 unfolding clap_on_literals
 with_refused = record { right = refl; name = codes "receive"; rows = _; entered = refl; read = refl }
+
+-- `select --station KEF fdh.desk --station HAM`: an option twice
+two_stations : Names (codes "ssimdesk" ∷ codes "select" ∷ codes "--station" ∷ codes "KEF"
+    ∷ codes "fdh.desk" ∷ codes "--station" ∷ codes "HAM" ∷ [])
+    (Select (record {
+      from = None;
+      to = None;
+      stations = codes "KEF" ∷ codes "HAM" ∷ [];
+      aircraft = [];
+    })
+    (codes "fdh.desk") [])
+unfolding clap_on_literals
+two_stations = record { right = refl; name = codes "select"; rows = _; entered = refl; read = refl }

@@ -8,11 +8,13 @@ use Rattle.clap.specs.Walk.{Row, Rule, Walk, first_of, nothing_held, positional,
 use Rattle.clap.specs.declared.parser.matches.ValueSource.TheVariants.{CommandLine}
 use Rattle.clap.proofs.OnLiterals.{clap_on_literals}
 use Rattle.ssim_command_line.specs.Line.{Command, Line, Text, any_texts, command, four, four_values}
-use Rattle.ssim_command_line.specs.Line.{one, one_and_texts, one_value, three, three_values, two, two_and_texts}
-use Rattle.ssim_command_line.specs.Line.{flag, form_of, optional, several_texts, two_values, values_in}
+use Rattle.ssim_command_line.specs.Line.{one, one_and_texts, one_or_two, one_or_two_values, one_value, three}
+use Rattle.ssim_command_line.specs.Line.{three_values, two, two_and_texts}
+use Rattle.ssim_command_line.specs.Line.{choice_of, choice_words, flag, form_of, optional, several_texts}
+use Rattle.ssim_command_line.specs.Line.{two_values, values_in}
 use Rattle.ssim_command_line.specs.Line.{Board, Calendar, Check, Diff, Explain, Export, Findings, History, Listing}
-use Rattle.ssim_command_line.specs.Line.{Merge, Page, Problems, Publish, Receive, Rehearse, Show, Start, Take, Texts}
-use Rattle.ssim_command_line.specs.Line.{Tidy, Withdraw}
+use Rattle.ssim_command_line.specs.Line.{Merge, Page, Problems, Publish, Receive, Rehearse, Select, Show, Start}
+use Rattle.ssim_command_line.specs.Line.{Carry, Take, Texts, Tidy, Withdraw}
 use Rattle.ssim_command_line.specs.Usage.{bare_program, leaf}
 use Rattle.ssim_command_line.proofs.PlainWords.{Outcome, outcome, plain_walked, step_at}
 
@@ -207,6 +209,27 @@ abbrev pub list_row : Command
 list_row = by (codes "list") (one_value ++ any_texts ∷ flag (codes "csv") ∷ flag (codes "dates") ∷ [])
     (λ rows. one_and_texts (Listing (form_of rows)))
 
+abbrev pub select_row : Command
+select_row = by (codes "select") (one_value ++ any_texts ∷ choice_words)
+    (λ rows. one_and_texts (Select (choice_of rows)))
+
+abbrev pub page_row : Command
+page_row = command (codes "page") one_or_two_values (one_or_two Page)
+
+one_of_page : (a : Text) → Reads page_row (a ∷ [])
+unfolding clap_on_literals
+one_of_page a = refl
+
+two_of_page : (a b : Text) → Reads page_row (a ∷ b ∷ [])
+unfolding clap_on_literals
+two_of_page a b = refl
+
+pub page_read : IsReader page_row
+page_read [] e = no_line e
+page_read (a ∷ []) e = one_of_page a
+page_read (a ∷ b ∷ []) e = two_of_page a b
+page_read (a ∷ b ∷ d ∷ rest) e = no_line e
+
 pub receive_read : IsReader receive_row
 unfolding clap_on_literals
 receive_read = several_reader receive_row.name receive_row.words (λ rows. Receive (first_of (codes "refused") rows))
@@ -220,6 +243,11 @@ texts_read_by = texts_reader texts_row.name texts_row.words (λ rows. Texts)
 pub list_read : IsReader list_row
 unfolding clap_on_literals
 list_read = texts_reader list_row.name list_row.words (λ rows. Listing (form_of rows))
+    (λ a. (refl, record { enter = λ t rest. refl; first = λ t u. refl; later = λ x seen t u. refl }))
+
+pub select_read : IsReader select_row
+unfolding clap_on_literals
+select_read = texts_reader select_row.name select_row.words (λ rows. Select (choice_of rows))
     (λ a. (refl, record { enter = λ t rest. refl; first = λ t u. refl; later = λ x seen t u. refl }))
 
 abbrev pub with_one : Text → (Text → Line) → Reader
@@ -247,6 +275,7 @@ readers =
     ∷ with_several (codes "take") Take
     ∷ record { row = receive_row; reads = receive_read }
     ∷ with_three (codes "merge") Merge
+    ∷ with_three (codes "carry") Carry
     ∷ record { row = texts_row; reads = texts_read_by }
     ∷ with_several (codes "withdraw") Withdraw
     ∷ with_three (codes "show") Show
@@ -256,9 +285,10 @@ readers =
     ∷ with_two (codes "calendar") Calendar
     ∷ with_two (codes "diff") Diff
     ∷ record { row = command (codes "publish") four_values (four Publish); reads = four_plain (codes "publish") Publish }
-    ∷ with_one (codes "page") Page
+    ∷ record { row = page_row; reads = page_read }
     ∷ with_one (codes "findings") Findings
     ∷ with_one (codes "export") Export
+    ∷ record { row = select_row; reads = select_read }
     ∷ with_three (codes "rehearse") Rehearse
     ∷ with_one (codes "explain") Explain
     ∷ []

@@ -6,6 +6,7 @@ use Rattle.std.specs.Option.{option_map_or}
 use Rattle.std.specs.Str.{bytes_eq}
 use Rattle.clap.specs.Words.{Row, Rule, all_of, first_of, new_rule}
 use Rattle.clap.specs.declared.builder.action.ArgAction.TheVariants.{Append, SetTrue}
+use Rattle.ssim_command_line.specs.declared.command_line.ChoiceWords.{ChoiceWords}
 use Rattle.ssim_command_line.specs.declared.command_line.ListForm.{ListForm}
 use Rattle.ssim_command_line.specs.declared.command_line.Request.{Request}
 use Rattle.ssim_command_line.specs.declared.command_line.Request.TheVariants as request
@@ -13,6 +14,14 @@ use Rattle.ssim_command_line.specs.declared.command_line.Request.TheVariants as 
 -- a text as its bytes
 abbrev pub Text : Type 0
 Text = List ℕ
+
+-- which flight dates are chosen, in words: from a first to a last date of origin, of some stations
+-- and some aircraft types
+pub record ChoiceTexts : Type 0 where
+  pub from : Option Text
+  pub to : Option Text
+  pub stations : List Text
+  pub aircraft : List Text
 
 -- a command with its values
 pub data Line : Type 0 where
@@ -23,20 +32,31 @@ pub data Line : Type 0 where
   Take : (desk out : Text) (texts : List Text) → Line
   Receive : (refused : Option Text) (desk out : Text) (texts : List Text) → Line
   Merge : (desk other out : Text) → Line
+  Carry : (desk other out : Text) → Line
   Texts : (desk : Text) (flights : List Text) → Line
   Withdraw : (desk out : Text) (references : List Text) → Line
-  Show : (desk flight date : Text) → Line
-  History : (desk flight date : Text) → Line
+  Show : (file flight date : Text) → Line
+  History : (file flight date : Text) → Line
   Board : (file station date : Text) → Line
   Listing : (form : ListForm) (file : Text) (flights : List Text) → Line
   Calendar : (file flight : Text) → Line
-  Page : (file : Text) → Line
+  Page : (from : Option Text) (file : Text) → Line
   Diff : (from to : Text) → Line
   Publish : (from to reference out : Text) → Line
   Findings : (desk : Text) → Line
   Export : (desk : Text) → Line
+  Select : (choice : ChoiceTexts) (file : Text) (flights : List Text) → Line
   Rehearse : (dataset stations script : Text) → Line
   Explain : (word : Text) → Line
+
+-- a choice as its texts
+abbrev pub choice_line : ChoiceWords → ChoiceTexts
+choice_line choice = record {
+  from = option_map (λ date. date.now) choice.from;
+  to = option_map (λ date. date.now) choice.to;
+  stations = map (λ station. station.now) choice.stations.items;
+  aircraft = map (λ aircraft. aircraft.now) choice.aircraft.items;
+}
 
 -- the command line of a request
 abbrev pub line_of : Request → Line
@@ -48,19 +68,22 @@ line_of (request.Take desk out texts) = Take desk.now out.now (map (λ t. t.now)
 line_of (request.Receive refused desk out texts) =
     Receive (option_map (λ r. r.now) refused) desk.now out.now (map (λ t. t.now) texts.items)
 line_of (request.Merge desk other out) = Merge desk.now other.now out.now
+line_of (request.Carry desk other out) = Carry desk.now other.now out.now
 line_of (request.Texts desk flights) = Texts desk.now (map (λ t. t.now) flights.items)
 line_of (request.Withdraw desk out references) =
     Withdraw desk.now out.now (map (λ r. r.now) references.items)
-line_of (request.Show desk flight date) = Show desk.now flight.now date.now
-line_of (request.History desk flight date) = History desk.now flight.now date.now
+line_of (request.Show file flight date) = Show file.now flight.now date.now
+line_of (request.History file flight date) = History file.now flight.now date.now
 line_of (request.Board file station date) = Board file.now station.now date.now
 line_of (request.List form file flights) = Listing form file.now (map (λ t. t.now) flights.items)
 line_of (request.Calendar file flight) = Calendar file.now flight.now
-line_of (request.Page file) = Page file.now
+line_of (request.Page from file) = Page (option_map (λ f. f.now) from) file.now
 line_of (request.Diff from to) = Diff from.now to.now
 line_of (request.Publish from to reference out) = Publish from.now to.now reference.now out.now
 line_of (request.Findings desk) = Findings desk.now
 line_of (request.Export desk) = Export desk.now
+line_of (request.Select choice file flights) =
+    Select (choice_line choice) file.now (map (λ t. t.now) flights.items)
 line_of (request.Rehearse dataset stations script) = Rehearse dataset.now stations.now script.now
 line_of (request.Explain word) = Explain word.now
 
@@ -69,6 +92,10 @@ line_of (request.Explain word) = Explain word.now
 -- a value that has to be there
 abbrev pub needed : Text → Rule
 needed id = record (new_rule id) { value_names = 1; required = true }
+
+-- a value that may be missing
+abbrev pub possible : Text → Rule
+possible id = record (new_rule id) { value_names = 1 }
 
 -- one or more texts
 abbrev pub several_texts : Rule
@@ -82,6 +109,10 @@ any_texts = record (new_rule (codes "texts")) { value_names = 1; action = Some A
 abbrev pub optional : Text → Rule
 optional name = record (new_rule name) { long = Some name; value_names = 1 }
 
+-- an option with a value that may come several times
+abbrev pub repeated : Text → Rule
+repeated name = record (optional name) { action = Some Append }
+
 -- an option without a value
 abbrev pub flag : Text → Rule
 flag name = record (new_rule name) { long = Some name; action = Some SetTrue }
@@ -94,6 +125,9 @@ two_values = one_value ++ needed (codes "second") ∷ []
 
 abbrev pub three_values : List Rule
 three_values = two_values ++ needed (codes "third") ∷ []
+
+abbrev pub one_or_two_values : List Rule
+one_or_two_values = one_value ++ possible (codes "second") ∷ []
 
 abbrev pub four_values : List Rule
 four_values = three_values ++ needed (codes "fourth") ∷ []
@@ -111,7 +145,23 @@ is_given name rows = option_map_or (λ text. bytes_eq text (codes "true")) (firs
 abbrev pub form_of : List Row → ListForm
 form_of rows = record { csv = is_given (codes "csv") rows; dates = is_given (codes "dates") rows }
 
--- ---- the line that values make: of as many as it names, or of those and the texts after them
+-- which flight dates the options choose
+abbrev pub choice_of : List Row → ChoiceTexts
+choice_of rows = record {
+  from = first_of (codes "from") rows;
+  to = first_of (codes "to") rows;
+  stations = unwrap_or (all_of (codes "station") rows) [];
+  aircraft = unwrap_or (all_of (codes "aircraft") rows) [];
+}
+
+-- the options of a choice
+abbrev pub choice_words : List Rule
+choice_words =
+    optional (codes "from") ∷ optional (codes "to") ∷ repeated (codes "station")
+    ∷ repeated (codes "aircraft") ∷ []
+
+-- ---- the line that values make: of as many as it names, or of those and the texts after them. One
+-- of two may be missing, which is the first of them.
 
 abbrev pub one : (Text → Line) → List Text → Option Line
 one make (a ∷ []) = Some (make a)
@@ -128,6 +178,11 @@ three make _ = None
 abbrev pub four : (Text → Text → Text → Text → Line) → List Text → Option Line
 four make (a ∷ b ∷ d ∷ e ∷ []) = Some (make a b d e)
 four make _ = None
+
+abbrev pub one_or_two : (Option Text → Text → Line) → List Text → Option Line
+one_or_two make (a ∷ []) = Some (make None a)
+one_or_two make (a ∷ b ∷ []) = Some (make (Some a) b)
+one_or_two make _ = None
 
 abbrev pub one_and_texts : (Text → List Text → Line) → List Text → Option Line
 one_and_texts make (a ∷ texts) = Some (make a texts)
@@ -163,6 +218,7 @@ commands =
       make = λ rows. two_and_texts (Receive (first_of (codes "refused") rows));
     }
     ∷ command (codes "merge") three_values (three Merge)
+    ∷ command (codes "carry") three_values (three Carry)
     ∷ command (codes "texts") (one_value ++ any_texts ∷ []) (one_and_texts Texts)
     ∷ command (codes "withdraw") (two_values ++ several_texts ∷ []) (two_and_texts Withdraw)
     ∷ command (codes "show") three_values (three Show)
@@ -176,9 +232,14 @@ commands =
     ∷ command (codes "calendar") two_values (two Calendar)
     ∷ command (codes "diff") two_values (two Diff)
     ∷ command (codes "publish") four_values (four Publish)
-    ∷ command (codes "page") one_value (one Page)
+    ∷ command (codes "page") one_or_two_values (one_or_two Page)
     ∷ command (codes "findings") one_value (one Findings)
     ∷ command (codes "export") one_value (one Export)
+    ∷ record {
+      name = codes "select";
+      words = one_value ++ any_texts ∷ choice_words;
+      make = λ rows. one_and_texts (Select (choice_of rows));
+    }
     ∷ command (codes "rehearse") three_values (three Rehearse)
     ∷ command (codes "explain") one_value (one Explain)
     ∷ []

@@ -3,7 +3,7 @@ ghost use Rattle.std.specs.Prelude.{◌≡◌, ◌++◌, [], IfErr, IfOk, MatchR
 ghost use Rattle.std.specs.Prelude.{option_map, unwrap_or};
 ghost use Rattle.clap.specs.Words.{all_of, app_of, found_of, first_of, rows_of};
 ghost use Rattle.ssim_command_line.specs.Line.{Line, Spells, form_of, is_given, line_from, values_in};
-ghost use Rattle.ssim_command_line.specs.Line.{line_of};
+ghost use Rattle.ssim_command_line.specs.Line.{choice_line, choice_of, line_of};
 ghost use Rattle.ssim_command_line.specs.Usage.{Names, line_at};
 ghost use Rattle.ssim_command_line.specs.clauses.Usage.{IsFaultOf};
 
@@ -20,6 +20,19 @@ pub struct ListForm {
     pub csv: bool,
     /// Date by date.
     pub dates: bool,
+}
+
+/// Which flight dates are chosen, in the words of the command line.
+#[derive(Debug, Drop)]
+pub struct ChoiceWords<'a> {
+    /// The first date of origin.
+    pub from: Option<&'a str>,
+    /// The last date of origin.
+    pub to: Option<&'a str>,
+    /// Stations, of which a leg touches one.
+    pub stations: Vec<&'a str>,
+    /// Aircraft types, of which a leg has one.
+    pub aircraft: Vec<&'a str>,
 }
 
 /// A command with its values. Those named `dataset`, `stations`, `desk`, `other`, `file`, `from`,
@@ -64,6 +77,12 @@ pub enum Request<'a> {
         other: &'a str,
         out: &'a str,
     },
+    /// Carry the messages of another desk that mean the same to a desk, and write the desk file.
+    Carry {
+        desk: &'a str,
+        other: &'a str,
+        out: &'a str,
+    },
     /// Print the texts of the messages of a desk: of all, or of those that name one of the flights.
     Texts {
         desk: &'a str,
@@ -75,15 +94,15 @@ pub enum Request<'a> {
         out: &'a str,
         references: Vec<&'a str>,
     },
-    /// Print a flight of a desk on a date.
+    /// Print a flight of a desk or a data set on a date.
     Show {
-        desk: &'a str,
+        file: &'a str,
         flight: &'a str,
         date: &'a str,
     },
-    /// Print what the messages of a desk did with a flight on a date.
+    /// Print what the messages of a desk did with a flight on a date; a data set has none.
     History {
-        desk: &'a str,
+        file: &'a str,
         flight: &'a str,
         date: &'a str,
     },
@@ -104,8 +123,10 @@ pub enum Request<'a> {
         file: &'a str,
         flight: &'a str,
     },
-    /// Print the timetable of a desk or a data set as a page of HTML.
+    /// Print the timetable of a desk or a data set as a page of HTML, with its changes from another
+    /// timetable, if one is named.
     Page {
+        from: Option<&'a str>,
         file: &'a str,
     },
     /// Print on which dates flights differ in two timetables, of desks or of data sets.
@@ -127,6 +148,12 @@ pub enum Request<'a> {
     /// Export a desk.
     Export {
         desk: &'a str,
+    },
+    /// Export the chosen flight dates of a desk or a data set: of all flights, or of these.
+    Select {
+        choice: ChoiceWords<'a>,
+        file: &'a str,
+        flights: Vec<&'a str>,
     },
     /// Run a script on desks.
     Rehearse {
@@ -156,12 +183,22 @@ pub enum LineFault {
 }
 
 /// The request with the values in its first fields, the texts after them in the next (one or more, if
-/// a `+` says so), and what the options say in the last. Nothing, if the values are too few or too
-/// many.
+/// a `+` says so), and what the options say in the last; after `=` that takes memory. The first of two
+/// values may be missing, if a `?` says so. Nothing, if the values are too few or too many.
 macro_rules! request {
     (($alloc:expr, $inner:expr, $values:expr) $name:ident($($field:ident),+)) => {
         match $values {
             [$($field),+] => Ok(Some(Request::$name { $($field: *$field),+ })),
+            _ => Ok(None),
+        }
+    };
+    (($alloc:expr, $inner:expr, $values:expr) $name:ident($first:ident?, $second:ident)) => {
+        match $values {
+            [$second] => Ok(Some(Request::$name { $first: None, $second: *$second })),
+            [$first, $second] => Ok(Some(Request::$name {
+                $first: Some(*$first),
+                $second: *$second,
+            })),
             _ => Ok(None),
         }
     };
@@ -171,6 +208,17 @@ macro_rules! request {
             [$($field),+, _, ..] => {
                 request!(($alloc, $inner, $values) $name($($field),+; $texts $($options)*))
             }
+            _ => Ok(None),
+        }
+    };
+    (($alloc:expr, $inner:expr, $values:expr)
+        $name:ident($($field:ident),+; $texts:ident; $options:ident = $of:ident)) => {
+        match $values {
+            [$($field),+, $texts @ ..] => Ok(Some(Request::$name {
+                $($field: *$field,)+
+                $texts: $texts.to_vec($alloc)?,
+                $options: $of($alloc, $inner)?,
+            })),
             _ => Ok(None),
         }
     };
@@ -261,6 +309,28 @@ fn form_of(inner: &ArgMatches<'_>) -> ListForm
         csv: is_given(inner, "csv"),
         dates: is_given(inner, "dates"),
     }
+}
+
+/// The values of an option that may come several times.
+fn all_at<'a>(alloc: Global, inner: &ArgMatches<'a>, name: &str) -> Result<Vec<&'a str>, AllocError>
+    ensures { IfOk result (λ values. map (λ v. v.now) values.items
+        ≡ unwrap_or (all_of name.now (rows_of (found_of inner.now))) []) }
+{
+    let mut values = Vec::new(alloc);
+    add_values(&mut values, values_at(inner, name))?;
+    Ok(values)
+}
+
+/// Which flight dates the options choose.
+fn choice_of<'a>(alloc: Global, inner: &ArgMatches<'a>) -> Result<ChoiceWords<'a>, AllocError>
+    ensures { IfOk result (λ choice. choice_line choice ≡ choice_of (rows_of (found_of inner.now))) }
+{
+    Ok(ChoiceWords {
+        from: option_at(inner, "from"),
+        to: option_at(inner, "to"),
+        stations: all_at(alloc, inner, "station")?,
+        aircraft: all_at(alloc, inner, "aircraft")?,
+    })
 }
 
 /// The request of the command with this name that these values and options make.

@@ -10,4 +10,4 @@ mod command_line;
 mod program;
 mod table;
 
-pub use command_line::{LineFault, ListForm, Request, parse};
+pub use command_line::{ChoiceWords, LineFault, ListForm, Request, parse};

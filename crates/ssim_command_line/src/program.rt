@@ -42,9 +42,13 @@ impl Word {
             Word::Second(shown) => needed(alloc, "second", shown),
             Word::Third(shown) => needed(alloc, "third", shown),
             Word::Fourth(shown) => needed(alloc, "fourth", shown),
+            Word::Possible(shown) => named(alloc, "second", shown),
             Word::Several(shown) => needed(alloc, "texts", shown).action(ArgAction::Append),
             Word::Any(shown) => named(alloc, "texts", shown).action(ArgAction::Append),
             Word::Valued(name, shown) => named(alloc, name, shown).long(name),
+            Word::Repeated(name, shown) => named(alloc, name, shown)
+                .long(name)
+                .action(ArgAction::Append),
             Word::Flag(name) => Arg::new(alloc, name)
                 .long(name)
                 .action(ArgAction::SetTrue)
