@@ -44,6 +44,7 @@ made_so file files answer (made.Kept kept lines) makes (Err why) is = absurd is
 made_so file files answer (made.Printed lines refused kept) makes (Err why) is = absurd is
 made_so file files answer (made.DataSet set) makes r is = makes r is
 made_so file files answer (made.Desk desk) makes r is = makes r is
+made_so file files answer (made.Part desk choice) makes r is = makes r is
 made_so file files answer (made.Texts place desk names) makes r is = makes r is
 
 -- ---- what was done

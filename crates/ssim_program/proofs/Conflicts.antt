@@ -1,5 +1,7 @@
 -- A refusal for a conflict comes of a text, or of two desks, and these name the two messages.
-use Rattle.std.proofs.Common.{◌≡◌, ◌⊎◌, ◌∙◌, inl, inr, ℕ, List, [], ◌∷◌, ◌++◌, Option, None, Some, Result, Ok, Err, true, true≢false, nat_eq, refl, sym, ap, subst, codes, slice_index_or}
+use Rattle.std.proofs.Common.{◌≡◌, ◌⊎◌, ◌∙◌, inl, inr, ℕ, List, [], ◌∷◌, ◌++◌, Option, None, Some}
+use Rattle.std.proofs.Common.{Result, Ok, Err, true, true≢false, nat_eq, refl, sym, ap, subst, codes}
+use Rattle.std.proofs.Common.{slice_index_or}
 use Rattle.std.specs.FinMap.{get}
 use Rattle.std.specs.Fmt.{digits}
 use Rattle.ssim_text.specs.Grammar.{OneMessage}
@@ -18,7 +20,9 @@ use Rattle.ssim_desk.specs.Steps.{RefusesDesk, RefusesText}
 use Rattle.ssim_command_line.specs.Line.{Text}
 use Rattle.ssim_program.specs.Acts.{Act, Acts, Print, Keep, Stop}
 use Rattle.ssim_program.specs.Answers.{merge, take, take_each}
-use Rattle.ssim_program.specs.Conflicts.{EndsWith, HasTwo, MergeMeetsTwo, TakeMeetsTwo, conflict}
+use Rattle.ssim_program.specs.Carrying.{IsFirstConflict}
+use Rattle.ssim_program.specs.Conflicts.{CarryMeetsTwo, EndsWith, HasTwo, MergeMeetsTwo, TakeMeetsTwo}
+use Rattle.ssim_program.specs.Conflicts.{conflict}
 use Rattle.ssim_program.specs.Desks.{desk_in, text_taken}
 use Rattle.ssim_program.specs.Files.{Files}
 use Rattle.ssim_program.specs.Made.{RefusesLoad}
@@ -61,14 +65,16 @@ loaded : (files : Option Files) (name : Text) (r : Reference) → RefusesLoad fi
 loaded files name r (inl memory) = no_memory r memory
 loaded files name r (inr (of_file, missing)) = not_91 r name of_file
 
-opened : (files : Option Files) (name : Text) (r : Reference) → desk_in files name (Err (conflict r)) → ⊥
+opened : (files : Option Files) (name : Text) (r : Reference) → desk_in files name (Err (conflict r))
+    → ⊥
 opened files name r (inl not_so) = loaded files name r not_so
 opened files name r (inr (bytes, has, (none, offset, is))) = absurd (is_file offset r is)
   where
     is_file : (offset : ℕ) (r : Reference) → conflict r ≡ refused.Desk (desk_fault.File offset) → ⊥
     is_file offset r e = absurd cc
 
-placed : (files : Option Files) (name : Text) (kind : ContentKind) (r : Reference) → place_in files name kind (Err (conflict r)) → ⊥
+placed : (files : Option Files) (name : Text) (kind : ContentKind) (r : Reference)
+    → place_in files name kind (Err (conflict r)) → ⊥
 placed files name kind r (inl memory) = no_memory r memory
 placed files name kind r (inr (inl (of_file, occupied))) = not_93 r name of_file
 placed files name kind r (inr (inr (inl (of_file, none)))) = not_92 r name of_file
@@ -93,81 +99,151 @@ no_end : (before : List Act) (why : Refusal) → [] ≡ before ++ Stop why ∷ [
 no_end [] why e = absurd cc
 no_end (x ∷ before) why e = absurd cc
 
-last_of : (act : Act) (before later : List Act) (why : Refusal) → act ∷ later ≡ before ++ Stop why ∷ [] → (act ≡ Stop why) ⊎ EndsWith why later
+last_of : (act : Act) (before later : List Act) (why : Refusal) → act ∷ later ≡ before ++ Stop why ∷ []
+    → (act ≡ Stop why) ⊎ EndsWith why later
 last_of act [] later why is = inl cc
 last_of act (x ∷ before) later why is = inr (before, cc)
 
 -- acts that are one refusal end with it
-same_refusal : (why other : Refusal) (before : List Act) → Stop other ∷ [] ≡ before ++ Stop why ∷ [] → other ≡ why
+same_refusal : (why other : Refusal) (before : List Act) → Stop other ∷ [] ≡ before ++ Stop why ∷ []
+    → other ≡ why
 same_refusal why other [] is = cc
 same_refusal why other (x ∷ before) is = absurd (no_end before why cc)
 
 module _ (one : OneMessage) (files : Files) (out : Text) (r : Reference) where
   -- a text is refused
-  text_conflict : (name : Text) (names : List Text) (desk : DeskSeen) → text_taken (Some files) name desk (Err (conflict r)) → HasTwo (Offered files desk (name ∷ names) r)
+  text_conflict : (name : Text) (names : List Text) (desk : DeskSeen)
+      → text_taken (Some files) name desk (Err (conflict r))
+      → HasTwo (Offered files desk (name ∷ names) r)
   text_conflict name names desk (inl not_so) = absurd (loaded (Some files) name r not_so)
   text_conflict name names desk (inr (text, has, (fault, refuses, is))) =
-      let c = subst (RefusesText (state_of desk) text) (same_fault (desk_fault.Conflict r) fault is) refuses in
+      let c = subst (RefusesText (state_of desk) text) (same_fault (desk_fault.Conflict r) fault is)
+      refuses in
       (c.other, c.message, c.apart, inl c.holds, inr (inl (text, has, c.says)))
 
   -- what is held after a text was offered before it
-  earlier : (name : Text) (names : List Text) (desk mid : DeskSeen) (line : List ℕ) (m : MessageValue) → text_taken (Some files) name desk (Ok (mid, line)) → Offered files mid names r m → Offered files desk (name ∷ names) r m
+  earlier : (name : Text) (names : List Text) (desk mid : DeskSeen) (line : List ℕ) (m : MessageValue)
+      → text_taken (Some files) name desk (Ok (mid, line)) → Offered files mid names r m
+      → Offered files desk (name ∷ names) r m
   earlier name names desk mid line m (text, has, (answer, reference, taken, is)) (inl holds) =
-      by ((take_holds one (state_of desk) text (take_answer (Ok (answer, reference))) (map_of mid.held) taken.takes r m).0 holds)
+      by ((take_holds one (state_of desk) text (take_answer (Ok (answer, reference))) (map_of mid.held)
+      taken.takes r m).0 holds)
     where
-      by : (get (map_of desk.held) r ≡ Some m) ⊎ ((is_accepted (take_answer (Ok (answer, reference))) ≡ true) × Says desk.base text r m) → Offered files desk (name ∷ names) r m
+      by : (get (map_of desk.held) r ≡ Some m)
+          ⊎ ((is_accepted (take_answer (Ok (answer, reference))) ≡ true) × Says desk.base text r m)
+          → Offered files desk (name ∷ names) r m
       by (inl h) = inl h
       by (inr s) = inr (inl (text, has, s.1))
   earlier name names desk mid line m (text, has, (answer, reference, taken, is)) (inr said) =
       inr (inr (subst (λ (b : BaseSeen). IsSaid files b names r m) taken.base said))
 
-  also_earlier : (name : Text) (names : List Text) (desk mid : DeskSeen) (line : List ℕ) → text_taken (Some files) name desk (Ok (mid, line)) → HasTwo (Offered files mid names r) → HasTwo (Offered files desk (name ∷ names) r)
-  also_earlier name names desk mid line taken (m, n, apart, mine, theirs) =
-      (m, n, apart, earlier name names desk mid line m taken mine, earlier name names desk mid line n taken theirs)
+  also_earlier : (name : Text) (names : List Text) (desk mid : DeskSeen) (line : List ℕ)
+      → text_taken (Some files) name desk (Ok (mid, line)) → HasTwo (Offered files mid names r)
+      → HasTwo (Offered files desk (name ∷ names) r)
+  also_earlier name names desk mid line taken (m, n, apart, mine, theirs) = (
+    m,
+    n,
+    apart,
+    earlier name names desk mid line m taken mine,
+    earlier name names desk mid line n
+        taken theirs,
+  )
 
   -- none of the texts is taken
-  at_once : (names : List Text) (desk : DeskSeen) → take_each (Some files) out names desk (Err (conflict r)) → HasTwo (Offered files desk names r)
+  at_once : (names : List Text) (desk : DeskSeen)
+      → take_each (Some files) out names desk (Err (conflict r)) → HasTwo (Offered files desk names r)
   at_once [] desk memory = absurd (no_memory r memory)
   at_once (name ∷ names) desk (inl refused) = text_conflict name names desk refused
   at_once (name ∷ names) desk (inr (made, taken, never)) = absurd never
 
-  through : (names : List Text) (desk : DeskSeen) (later : List Act) → take_each (Some files) out names desk (Ok later) ⊎ ((why : Refusal) × take_each (Some files) out names desk (Err why) × (later ≡ Stop why ∷ []))
-      → EndsWith (conflict r) later → (take_each (Some files) out names desk (Ok later) → HasTwo (Offered files desk names r)) → HasTwo (Offered files desk names r)
+  through : (names : List Text) (desk : DeskSeen) (later : List Act)
+      → take_each (Some files) out names desk (Ok later)
+      ⊎ ((why : Refusal) × take_each (Some files) out names desk (Err why)
+      × (later ≡ Stop why ∷ []))
+      → EndsWith (conflict r) later
+      → (take_each (Some files) out names desk (Ok later) → HasTwo (Offered files desk names r))
+      → HasTwo (Offered files desk names r)
   through names desk later (inl takes) more again = again takes
   through names desk later (inr (why, not_so, is)) more again =
       let same = same_refusal (conflict r) why more.0 (sym is ∙ more.1) in
-      at_once names desk (subst (λ (x : Refusal). take_each (Some files) out names desk (Err x)) same not_so)
+      at_once names desk (subst (λ (x : Refusal). take_each (Some files) out names desk (Err x)) same
+      not_so)
 
-  after_some : (names : List Text) (desk : DeskSeen) (acts : List Act) → take_each (Some files) out names desk (Ok acts) → EndsWith (conflict r) acts → HasTwo (Offered files desk names r)
-  after_some [] desk acts (rising, are) (before, ends) = by (last_of _ before [] (conflict r) (sym are ∙ ends))
+  after_some : (names : List Text) (desk : DeskSeen) (acts : List Act)
+      → take_each (Some files) out names desk (Ok acts) → EndsWith (conflict r) acts
+      → HasTwo (Offered files desk names r)
+  after_some [] desk acts (rising, are) (before, ends) =
+      by (last_of _ before [] (conflict r) (sym are ∙ ends))
     where
-      by : (Keep out (desk_file desk.base desk.held) ≡ Stop (conflict r)) ⊎ EndsWith (conflict r) [] → HasTwo (Offered files desk [] r)
+      by : (Keep out (desk_file desk.base desk.held) ≡ Stop (conflict r)) ⊎ EndsWith (conflict r) []
+          → HasTwo (Offered files desk [] r)
       by (inl is) = absurd (kept_or_stopped out (desk_file desk.base desk.held) (conflict r) is)
       by (inr (xs, e)) = absurd (no_end xs (conflict r) e)
   after_some (name ∷ names) desk acts (made, taken, (later, rest, are)) (before, ends) =
-      by (last_of _ before later (conflict r) (sym are ∙ ends)) (λ more. through names made.0 later rest more (λ takes. after_some names made.0 later takes more))
+      by (last_of _ before later (conflict r) (sym are ∙ ends))
+      (λ more. through names made.0 later rest more
+      (λ takes. after_some names made.0 later takes more))
     where
-      by : (Print made.1 ≡ Stop (conflict r)) ⊎ EndsWith (conflict r) later → (EndsWith (conflict r) later → HasTwo (Offered files made.0 names r)) → HasTwo (Offered files desk (name ∷ names) r)
+      by : (Print made.1 ≡ Stop (conflict r)) ⊎ EndsWith (conflict r) later
+          → (EndsWith (conflict r) later → HasTwo (Offered files made.0 names r))
+          → HasTwo (Offered files desk (name ∷ names) r)
       by (inl is) next = absurd (printed_or_stopped made.1 (conflict r) is)
       by (inr more) next = also_earlier name names desk made.0 made.1 taken (next more)
 
 -- ---- the commands
 
 pub take_meets_two : OneMessage → TakeMeetsTwo
-take_meets_two one files name out texts acts r (inl (_, may, (desk, read, takes))) ends = (desk, read, after_some one files out r texts desk acts takes ends)
+take_meets_two one files name out texts acts r (inl (_, may, (desk, read, takes))) ends =
+    (desk, read, after_some one files out r texts desk acts takes ends)
 take_meets_two one files name out texts acts r (inr (why, not_so, is)) (before, ends) =
-    by (subst (λ (x : Refusal). take (Some files) name out texts (Err x)) (same_refusal (conflict r) why before (sym is ∙ ends)) not_so)
+    by (subst (λ (x : Refusal). take (Some files) name out texts (Err x))
+    (same_refusal (conflict r) why before (sym is ∙ ends)) not_so)
   where
-    by : take (Some files) name out texts (Err (conflict r)) → (desk : DeskSeen) × desk_in (Some files) name (Ok desk) × HasTwo (Offered files desk texts r)
+    by : take (Some files) name out texts (Err (conflict r)) → (desk : DeskSeen)
+        × desk_in (Some files) name (Ok desk) × HasTwo (Offered files desk texts r)
     by (inl not_held) = absurd (placed (Some files) out kind.DeskFile r not_held)
     by (inr (_, may, inl not_read)) = absurd (opened (Some files) name r not_read)
     by (inr (_, may, inr (desk, read, takes))) = (desk, read, at_once one files out r texts desk takes)
 
 pub merge_meets_two : MergeMeetsTwo
-merge_meets_two files mine theirs out r (inl not_held) = absurd (placed (Some files) out kind.DeskFile r not_held)
-merge_meets_two files mine theirs out r (inr (_, may, inl not_read)) = absurd (opened (Some files) mine r not_read)
-merge_meets_two files mine theirs out r (inr (_, may, inr (one, read, inl not_read))) = absurd (opened (Some files) theirs r not_read)
-merge_meets_two files mine theirs out r (inr (_, may, inr (one, read, inr (other, reads, inl (fault, refuses, is))))) =
-    let c = (subst (RefusesDesk (state_of one) (state_of other)) (same_fault (desk_fault.Conflict r) fault is) refuses).1.differ in
+merge_meets_two files mine theirs out r (inl not_held) =
+    absurd (placed (Some files) out kind.DeskFile r not_held)
+merge_meets_two files mine theirs out r (inr (_, may, inl not_read)) =
+    absurd (opened (Some files) mine r not_read)
+merge_meets_two files mine theirs out r (inr (_, may, inr (one, read, inl not_read))) =
+    absurd (opened (Some files) theirs r not_read)
+merge_meets_two files mine theirs out r
+    (inr (_, may, inr (one, read, inr (other, reads, inl (fault, refuses, is))))) =
+    let c = (subst (RefusesDesk (state_of one) (state_of other))
+    (same_fault (desk_fault.Conflict r) fault is) refuses).1.differ in
     (one, other, read, reads, (c.one, c.other, c.apart, inl c.in_one, inr c.in_other))
-merge_meets_two files mine theirs out r (inr (_, may, inr (one, read, inr (other, reads, inr (after, merges, memory))))) = absurd (no_memory r memory)
+merge_meets_two files mine theirs out r
+    (inr (_, may, inr (one, read, inr (other, reads, inr (after, merges, memory))))) =
+    absurd (no_memory r memory)
+
+pub carry_meets_two : CarryMeetsTwo
+carry_meets_two files mine theirs out r (inl not_held) =
+    absurd (placed (Some files) out kind.DeskFile r not_held)
+carry_meets_two files mine theirs out r (inr (_, may, inl not_read)) =
+    absurd (opened (Some files) mine r not_read)
+carry_meets_two files mine theirs out r (inr (_, may, inr (one, read, inl not_read))) =
+    absurd (opened (Some files) theirs r not_read)
+carry_meets_two files mine theirs out r
+    (inr (_, may, inr (one, read, inr (other, reads, inl (apart, is))))) = absurd (other_base r is)
+  where
+    other_base : (r : Reference) → conflict r ≡ refused.Desk desk_fault.OtherBase → ⊥
+    other_base r e = absurd cc
+carry_meets_two files mine theirs out r
+    (inr (_, may, inr (one, read, inr (other, reads, inr (_, alike, inl (inl memory)))))) =
+    absurd (no_memory r memory)
+carry_meets_two files mine theirs out r
+    (inr (_, may, inr (one, read, inr (other, reads, inr (_, alike, inl (inr (q, first, is))))))) =
+    let same : q ≡ r = same_reference q r is in
+    let c = (subst (IsFirstConflict one other) same first).conflict in
+    (one, other, read, reads, (c.one, c.other, c.apart, inl c.holds, inr c.carried.0))
+  where
+    same_reference : (q r : Reference) → conflict r ≡ refused.Desk (desk_fault.Conflict q) → q ≡ r
+    same_reference q r e = cc
+carry_meets_two files mine theirs out r
+    (inr (_, may, inr (one, read, inr (other, reads, inr (_, alike, inr (made, carries, memory)))))) =
+    absurd (no_memory r memory)

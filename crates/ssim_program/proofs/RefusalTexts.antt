@@ -46,6 +46,7 @@ pub memory_text : (r : Refusal) → refusal_number r ≡ 90 → refusal_text r �
 unfolding digits
 memory_text (refused.Value fault) is = absurd (not_value fault is)
 memory_text refused.Reference is = absurd (omega (arith, is))
+memory_text refused.Aircraft is = absurd (omega (arith, is))
 memory_text (refused.DataSet base.Memory) is = refl
 memory_text (refused.DataSet (base.Read fault)) is = absurd (not_record fault is)
 memory_text (refused.DataSet (base.Refused n why)) is = absurd (not_base why is)

@@ -1,27 +1,18 @@
--- A file that was opened is a desk file or a data set, by how it begins.
-use Rattle.std.proofs.Common.{◌≡◌, inl, inr, Option, Some, None, Result, Ok, Err, IfErr, IfOk}
+-- A file of which the first bytes were looked at.
+use Rattle.std.proofs.Common.{◌≡◌, inl, Option, Some, None, Result, Ok, Err, IfErr}
 use Rattle.std.specs.Prelude.{IfSome}
-use Rattle.ssim_held.specs.Entries.{DeskSeen}
-use Rattle.ssim_command_line.specs.Line.{Text}
 use Rattle.ssim_records.specs.Device.{Reader}
-use Rattle.ssim_program.specs.Desks.{desk_in}
+use Rattle.ssim_command_line.specs.Line.{Text}
 use Rattle.ssim_program.specs.Files.{Files}
-use Rattle.ssim_program.specs.Made.{RefusesFile}
-use Rattle.ssim_program.specs.Timetables.{BeginsAs, ReadsTimetable, RefusesTimetable}
-use Rattle.ssim_program.specs.declared.explain.file_kind.FileKind.TheVariants as kind
+use Rattle.ssim_program.specs.Made.{RefusesLoad}
+use Rattle.ssim_program.specs.Timetables.{RefusesReading}
 use Rattle.ssim_program.specs.declared.refusal.Refusal.{Refusal}
 
-pub reads_desk : (files : Option Files) (name : Text) (result : Result DeskSeen Refusal) → BeginsAs kind.Desk files name → IfOk result (λ desk. desk_in files name (Ok desk)) → IfOk result (ReadsTimetable files name)
-reads_desk files name (Ok desk) begins read = inl (begins, read)
-reads_desk files name (Err refusal) begins read = tt
-
-pub refuses_desk : (files : Option Files) (name : Text) (result : Result DeskSeen Refusal) → BeginsAs kind.Desk files name → IfErr result (λ why. desk_in files name (Err why)) → IfErr result (RefusesTimetable files name)
-refuses_desk files name (Ok desk) begins refuses = tt
-refuses_desk files name (Err refusal) begins refuses = inr (inl (begins, refuses))
-
-pub refuses_data_set : (files : Option Files) (name : Text) (result : Result DeskSeen Refusal) → BeginsAs kind.DataSet files name → IfErr result (RefusesFile files name) → IfErr result (RefusesTimetable files name)
-refuses_data_set files name (Ok desk) begins refuses = tt
-refuses_data_set files name (Err refusal) begins refuses = inr (inr (begins, refuses))
+-- a file that is not loaded is not read to its end
+pub refuses_load : {A : Type 0} (files : Option Files) (name : Text) (result : Result A Refusal)
+    → IfErr result (RefusesLoad files name) → IfErr result (RefusesReading files name)
+refuses_load files name (Ok a) refuses = tt
+refuses_load files name (Err refusal) refuses = inl refuses
 
 -- a file of which the first bytes were looked at fails only as the file does
 pub unfailing : {F G : Type 0} (files : Option Files) (state : F → Reader) (reader : G → F)

@@ -1,4 +1,4 @@
--- What `tidy` or `export` wrote can be tidied again, with the same bytes.
+-- What `tidy`, `export` or `select` wrote can be tidied again, with the same bytes.
 use Rattle.std.specs.Prelude.{◌≡◌, ℕ, ◌+◌, ◌≤◌, List, [], ◌∷◌, length, ⊤, Option, Some, Ok}
 use Rattle.std.specs.Io.KnownBytes.{Appends}
 use Rattle.ssim_records.specs.declared.record.Record.{Record}
@@ -7,7 +7,7 @@ use Rattle.ssim_base.specs.ReadBack.{AreRead}
 use Rattle.ssim_program.specs.Acts.{Act, Print}
 use Rattle.ssim_program.specs.Answers.{tidy}
 use Rattle.ssim_program.specs.Files.{Files, file_of}
-use Rattle.ssim_command_line.specs.Line.{Line, Text, Tidy, Export}
+use Rattle.ssim_command_line.specs.Line.{Line, Text, Tidy, Export, Select}
 use Rattle.ssim_program.specs.Made.{IsExportOf, file_limit}
 
 -- the bytes are read as the records of a base, without a refusal or a note, and are the export of
@@ -24,10 +24,12 @@ pub record ReadsAsItself (bytes : List ℕ) : Type 0 where
 abbrev pub GrowsByItself : Option (List ℕ) → Option (List ℕ) → Type 0
 GrowsByItself before after = (bytes : List ℕ) × ReadsAsItself bytes × Appends before after bytes
 
--- `tidy` and `export` print bytes that are read as themselves; nothing is said of other commands
+-- `tidy`, `export` and `select` print bytes that are read as themselves; nothing is said of other
+-- commands
 abbrev pub PrintsItself : Line → Option (List ℕ) → Option (List ℕ) → Type 0
 PrintsItself (Tidy name) before after = GrowsByItself before after
 PrintsItself (Export file) before after = GrowsByItself before after
+PrintsItself (Select choice file flights) before after = GrowsByItself before after
 PrintsItself _ before after = ⊤
 
 -- From a file of bytes that are read as themselves `tidy` makes the same bytes.

@@ -1,46 +1,58 @@
 -- What each command does, by the files: one equation a command.
-use Rattle.std.specs.Prelude.{◌≡◌, ℕ, true, List, [], ◌∷◌, length, map, slice_range}
-use Rattle.std.specs.Prelude.{Option, Ok, Err}
+use Rattle.std.specs.Prelude.{◌≡◌, ℕ, true, List, [], ◌∷◌, ◌++◌, length, map, slice_range}
+use Rattle.std.specs.Prelude.{Option, None, Some, Ok, Err}
 use Rattle.ssim_values.specs.Station.{is_station}
+use Rattle.ssim_values.specs.Flight.{FlightNumber}
 use Rattle.ssim_values.specs.declared.designator.Designator.{Designator}
 use Rattle.ssim_values.specs.declared.fault.Fault.TheVariants as value_fault
 use Rattle.ssim_records.specs.Carrier.{CarrierFields}
 use Rattle.ssim_base.specs.Base.{airline_of}
 use Rattle.ssim_base.specs.SavedBase.{IsBaseRecords}
-use Rattle.ssim_base.specs.Timetable.{days_of, itinerary}
+use Rattle.ssim_base.specs.Timetable.{Days, days_of, itinerary}
 use Rattle.ssim_schedule.specs.FlightPieces.{Divided, divided_among, divided_flights}
-use Rattle.ssim_text.specs.Lines.{day_in}
+use Rattle.ssim_words.specs.Date.{typed_day}
+use Rattle.ssim_words.specs.Typed.{typed}
 use Rattle.ssim_held.specs.Entries.{AreRising, DeskSeen}
 use Rattle.ssim_held.specs.File.{desk_file}
+use Rattle.ssim_held.specs.declared.fault.DeskFault.TheVariants as desk_fault
 use Rattle.ssim_desk.specs.DateSteps.{steps_on}
 use Rattle.ssim_desk.specs.Desk.{days_of_desk, finding_lines, timetable_of}
 use Rattle.ssim_board.specs.InOrder.{board_of}
 use Rattle.ssim_board.specs.Lines.{board_lines}
+use Rattle.ssim_difference.specs.Differences as differing
 use Rattle.ssim_difference.specs.Lines.{difference_lines}
 use Rattle.ssim_outbox.specs.Comparable.{RefusesCarriers}
 use Rattle.ssim_outbox.specs.Publication.{Publishes, RefusesPublication}
 use Rattle.ssim_outbox.specs.declared.fault.OutboxFault.{OutboxFault}
+use Rattle.ssim_parts.specs.Chosen.{chosen_days}
 use Rattle.ssim_page.specs.Page.{whole_page}
 use Rattle.ssim_page.specs.declared.heading.PageHeading.{PageHeading}
-use Rattle.ssim_command_line.specs.Line.{Line, Text, Check, Problems, Tidy, Start, Take, Merge, Withdraw}
+use Rattle.ssim_command_line.specs.Line.{Line, Text, Check, Problems, Tidy, Start, Take, Merge}
+use Rattle.ssim_command_line.specs.Line.{Withdraw}
+use Rattle.ssim_command_line.specs.Line.{Carry, ChoiceTexts}
 use Rattle.ssim_command_line.specs.Line.{Receive, Texts, Show, History, Calendar, Findings, Export}
 use Rattle.ssim_command_line.specs.Line.{Rehearse, Explain, Page, Board, Diff, Publish, Listing}
+use Rattle.ssim_command_line.specs.Line.{Select}
 use Rattle.ssim_command_line.specs.declared.command_line.ListForm.{ListForm}
 use Rattle.ssim_program.specs.Acts.{Act, Print, Keep, prints, prints_then}
+use Rattle.ssim_program.specs.Carrying.{AreOfOneAirline, carried}
 use Rattle.ssim_program.specs.Exports.{export_in}
 use Rattle.ssim_program.specs.Answer.{Answer, Finds, Gives, Known, OrElse, Require, ◌>>=◌}
+use Rattle.ssim_program.specs.Choices.{choice_in}
 use Rattle.ssim_program.specs.Desks.{desk_in, flight_date, held_line, merged, text_taken}
 use Rattle.ssim_program.specs.Explained.{Explains}
 use Rattle.ssim_program.specs.Files.{Files}
-use Rattle.ssim_program.specs.Made.{AreLinesOn, base_in, data_set_in, problem_lines, problems_in, RefusesLoad}
+use Rattle.ssim_program.specs.Made.{AreLinesOn, base_in, data_set_in, problem_lines, problems_in}
+use Rattle.ssim_program.specs.Made.{RefusesLoad}
 use Rattle.ssim_program.specs.Messages.{flights_in, message_texts, messages_on}
 use Rattle.ssim_program.specs.Places.{place_in}
 use Rattle.ssim_program.specs.Receiving.{places_in, receipt_lines, received, received_files}
-use Rattle.ssim_program.specs.Timetables.{carrier_of, timetable_in}
+use Rattle.ssim_program.specs.Timetables.{carrier_of, shown_in, timetable_in}
 use Rattle.ssim_program.specs.Withdrawing.{withdrawn}
 use Rattle.ssim_program.specs.rehearse.Rehearsal.{RehearsesFiles, RefusesLines}
 use Rattle.ssim_program.specs.print.Calendar.{calendar_lines}
 use Rattle.ssim_program.specs.print.Listing.{printed_list}
+use Rattle.ssim_program.specs.print.Page.{message_articles}
 use Rattle.ssim_program.specs.print.Shown.{findings_lines, history_lines, shown_flight}
 use Rattle.ssim_program.specs.declared.content_kind.ContentKind.TheVariants as kind
 use Rattle.ssim_program.specs.declared.refusal.Refusal.TheVariants as refused
@@ -108,6 +120,18 @@ merge files file other out = do
   Known (AreRising after.held)
       (Keep out (desk_file after.base after.held) ∷ Print (held_line (length after.held)) ∷ [])
 
+-- A desk that holds what it held and those messages of another that mean the same in it, and what
+-- became of each. The data sets are of one airline and one time mode (else 61).
+abbrev pub carry : Option Files → Text → Text → Text → Answer (List Act)
+carry files file other out = do
+  place ← place_in files out kind.DeskFile
+  mine ← desk_in files file
+  theirs ← desk_in files other
+  one ← Require (AreOfOneAirline mine theirs) (refused.Desk desk_fault.OtherBase)
+  made ← carried mine theirs
+  Known (AreRising made.0.held) (Keep out (desk_file made.0.base made.0.held)
+      ∷ Print (made.1 ++ held_line (length made.0.held)) ∷ [])
+
 -- A line for each of these references, and then the desk without their messages.
 abbrev pub withdraw : Option Files → Text → Text → List Text → Answer (List Act)
 withdraw files file out references = do
@@ -129,14 +153,14 @@ texts files file words = do
 -- a flight on a date
 abbrev pub show : Option Files → Text → Text → Text → Answer (List ℕ)
 show files file flight date = do
-  desk ← desk_in files file
+  desk ← shown_in files file
   named ← flight_date (airline_of desk.base.records) flight date
   Gives (shown_flight named.0 named.1 (timetable_of desk named.0.flight named.1))
 
 -- what the data set has for a flight on a date, and what each sub-message did with it
 abbrev pub history : Option Files → Text → Text → Text → Answer (List ℕ)
 history files file flight date = do
-  desk ← desk_in files file
+  desk ← shown_in files file
   named ← flight_date (airline_of desk.base.records) flight date
   Gives (history_lines named.0 named.1 (itinerary desk.base.records named.0.flight named.1)
       (steps_on desk named.0.flight named.1))
@@ -155,16 +179,23 @@ export files file = do
 
 -- ---- timetables of desks or data sets
 
+-- the canonical export of the chosen part of a timetable
+abbrev pub select : Option Files → ChoiceTexts → Text → List Text → Answer (List Act)
+select files words file flights = do
+  desk ← timetable_in files file
+  choice ← choice_in (airline_of desk.base.records) words flights
+  prints (export_in desk.base.records (chosen_days choice (days_of_desk desk)))
+
 -- The departures and arrivals at a station on a local date. The airline and the time mode are those
 -- of the carrier record.
 abbrev pub board : Option Files → Text → Text → Text → Answer (List ℕ)
 board files file station date = do
   desk ← timetable_in files file
-  here ← Require (is_station station ≡ true) (refused.Value value_fault.BadStation)
-  day ← OrElse (day_in date) (refused.Value value_fault.BadDate)
+  here ← Require (is_station (typed station) ≡ true) (refused.Value value_fault.BadStation)
+  day ← OrElse (typed_day date) (refused.Value value_fault.BadDate)
   carrier ← carrier_of desk.base.records
   Gives (board_lines carrier.airline day (board_of
-      (record { station = station; day = day; mode = carrier.time_mode }) (days_of_desk desk)))
+      (record { station = typed station; day = day; mode = carrier.time_mode }) (days_of_desk desk)))
 
 -- the flights with the pieces of their dates, by number and then by suffix: all that fly on some
 -- date if none is named, or else those that are named, each once
@@ -196,13 +227,6 @@ heading_of r = record {
   time_mode = r.time_mode;
 }
 
--- a page of the flights that fly on some date, under the heading of the carrier record
-abbrev pub page : Option Files → Text → Answer (List ℕ)
-page files file = do
-  desk ← timetable_in files file
-  carrier ← carrier_of desk.base.records
-  Gives (whole_page (heading_of carrier) (divided_flights (days_of_desk desk)))
-
 -- the carrier records are of one airline (else 41) and one time mode (else 40)
 abbrev pub compared : CarrierFields → CarrierFields → Answer (Unit {0})
 compared mine theirs (Ok x) =
@@ -224,6 +248,34 @@ diff files from to = do
   old ← timetable_in files from
   new ← timetable_in files to
   differences old new
+
+-- The page of a desk under the heading of the carrier record: the flights that fly on some date, the
+-- dates on which they differ from an earlier timetable, and the messages with what they found.
+abbrev pub desk_page : CarrierFields → (FlightNumber → Days) → DeskSeen → List ℕ
+desk_page carrier before desk =
+    whole_page (heading_of carrier) (divided_flights (days_of_desk desk))
+    (differing.differences before (days_of_desk desk))
+    (message_articles desk.held (finding_lines desk))
+
+-- the page of the second desk, with its changes from the first
+abbrev pub changed_page : DeskSeen → DeskSeen → Answer (List ℕ)
+changed_page old new = do
+  mine ← carrier_of old.base.records
+  theirs ← carrier_of new.base.records
+  same ← compared mine theirs
+  Gives (desk_page theirs (days_of_desk old) new)
+
+-- The page of a timetable, with its changes from another one. If no other is named, they are those
+-- from its own data set.
+abbrev pub page : Option Files → Option Text → Text → Answer (List ℕ)
+page files None file = do
+  desk ← timetable_in files file
+  carrier ← carrier_of desk.base.records
+  Gives (desk_page carrier (days_of desk.base.records) desk)
+page files (Some from) file = do
+  old ← timetable_in files from
+  new ← timetable_in files file
+  changed_page old new
 
 -- the lines and the mail by which the first desk is led to the second
 abbrev pub published : DeskSeen → DeskSeen → Text → Answer (List ℕ × List ℕ)
@@ -264,6 +316,7 @@ answers (Start dataset stations out) files = start files dataset stations out
 answers (Take file out names) files = take files file out names
 answers (Receive refused file out names) files = receive files refused file out names
 answers (Merge file other out) files = merge files file other out
+answers (Carry file other out) files = carry files file other out
 answers (Withdraw file out references) files = withdraw files file out references
 answers (Texts file flights) files = prints (texts files file flights)
 answers (Show file flight date) files = prints (show files file flight date)
@@ -271,10 +324,11 @@ answers (History file flight date) files = prints (history files file flight dat
 answers (Board file station date) files = prints (board files file station date)
 answers (Listing form file flights) files = prints (list files form file flights)
 answers (Calendar file flight) files = prints (calendar files file flight)
-answers (Page file) files = prints (page files file)
+answers (Page from file) files = prints (page files from file)
 answers (Diff from to) files = prints (diff files from to)
 answers (Publish from to reference out) files = publish files from to reference out
 answers (Findings file) files = prints (findings files file)
 answers (Export file) files = export files file
+answers (Select choice file flights) files = select files choice file flights
 answers (Rehearse dataset stations script) files = prints (rehearse files dataset stations script)
 answers (Explain word) files = prints (explain files word)

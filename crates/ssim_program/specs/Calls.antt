@@ -1,12 +1,13 @@
 -- Calls of the program, each of which is one event of a history.
 use Rattle.std.specs.Prelude.{◌≡◌, ◌⊎◌, ℕ, List, [], ◌∷◌, Option, Some, Result}
-use Rattle.ssim_command_line.specs.Line.{Line, Text, Start, Take, Receive, Merge, Withdraw, Publish}
+use Rattle.ssim_command_line.specs.Line.{Line, Text, Start, Take, Receive, Merge, Carry, Withdraw}
+use Rattle.ssim_command_line.specs.Line.{Publish}
 use Rattle.ssim_command_line.specs.Usage.{Names}
 use Rattle.ssim_program.specs.Answers.{answers}
 use Rattle.ssim_program.specs.Files.{Files}
 use Rattle.ssim_program.specs.Offices.{Event, Happened, History, Leaves, Then, files_of}
 use Rattle.ssim_program.specs.Offices.{StartKept, TakeKept, ReceiveKept, MergeKept, WithdrawKept}
-use Rattle.ssim_program.specs.Offices.{Unchanged, Came}
+use Rattle.ssim_program.specs.Offices.{CarryKept, Unchanged, Came}
 use Rattle.ssim_program.specs.Receiving.{Receipt}
 use Rattle.ssim_program.specs.World.{Does, World}
 use Rattle.ssim_program.specs.declared.refusal.Refusal.{Refusal}
@@ -20,6 +21,7 @@ IsEventOf (Receive refused desk out names) event =
     ((receipts : List Receipt) × (event ≡ ReceiveKept refused desk out names receipts))
     ⊎ ((name : Text) × (texts : List ℕ) × (refused ≡ Some name) × (event ≡ Came name texts))
 IsEventOf (Merge mine theirs out) event = event ≡ MergeKept mine theirs out
+IsEventOf (Carry mine theirs out) event = event ≡ CarryKept mine theirs out
 IsEventOf (Withdraw desk out references) event = event ≡ WithdrawKept desk out references
 IsEventOf (Publish from to reference out) event = (mail : List ℕ) × (event ≡ Came out mail)
 IsEventOf line event = ⊥

@@ -1,6 +1,7 @@
--- What `explain` prints: for a number the line of a refusal that has it, for a file the line of its
--- refusal, and then an explanation.
-use Rattle.std.specs.Prelude.{◌≡◌, ◌⊎◌, ℕ, ◌==◌, Bool, true, List, [], ◌∷◌, ◌++◌, drop, Option, Some, None}
+-- What `explain` prints: for a number the line of a refusal that has it; for a file the line of its
+-- refusal, or of the other program that made it, and then an explanation.
+use Rattle.std.specs.Prelude.{◌≡◌, ◌⊎◌, ℕ, ◌==◌, Bool, false, true}
+use Rattle.std.specs.Prelude.{List, [], ◌∷◌, ◌++◌, drop, Option, Some, None}
 use Rattle.std.specs.Prelude.{Ok, Err, if◌then◌else◌, codes}
 use Rattle.std.specs.Char.{is_ascii_whitespace}
 use Rattle.std.specs.Fmt.{decimal}
@@ -20,23 +21,29 @@ use Rattle.ssim_text.specs.Left.{lines_left, without_end}
 use Rattle.ssim_text.specs.Message.{MessageValue}
 use Rattle.ssim_text.specs.Spelling.{SpellsMessage}
 use Rattle.ssim_text.specs.declared.fault.TextFault.{TextFault}
+use Rattle.ssim_guide.specs.Words.{Explains as ExplainsRefusal, is_refusal}
 use Rattle.ssim_held.specs.File.{IsDeskFile}
 use Rattle.ssim_held.specs.Entries.{DeskSeen}
 use Rattle.ssim_held.specs.declared.fault.DeskFault.TheVariants as desk_fault
 use Rattle.ssim_program.specs.Desks.{IsNoDeskFile}
 use Rattle.ssim_program.specs.Files.{Files}
+use Rattle.ssim_program.specs.Foreign.{BeginsWithForeign, foreign_kind}
 use Rattle.ssim_command_line.specs.Line.{Text}
 use Rattle.ssim_program.specs.Made.{HasFile, IsOfBytes, file_limit}
-use Rattle.ssim_program.specs.print.Refusal.{refusal_number, refusal_text}
+use Rattle.ssim_program.specs.print.Refusal.{refusal_name, refusal_number, refusal_text}
 use Rattle.ssim_program.specs.rehearse.Script.{RefusesScript, Script, SpellsScript}
 use Rattle.ssim_program.specs.declared.explain.file_kind.FileKind.{FileKind}
 use Rattle.ssim_program.specs.declared.explain.file_kind.FileKind.TheVariants as kind
+use Rattle.ssim_program.specs.declared.explain.foreign.ForeignKind.{ForeignKind}
 use Rattle.ssim_program.specs.declared.refusal.Refusal.{Refusal}
 use Rattle.ssim_program.specs.declared.refusal.Refusal.TheVariants as refused
 
--- the text begins with the line of this refusal
+-- The text is the line of this refusal, and then its name with a meaning, lines on its place, and what
+-- to do about it. If no command has a refusal of the number, nothing is said of what follows.
 abbrev pub BeginsWith : Refusal → List ℕ → Type 0
 BeginsWith refusal printed = (rest : List ℕ) × (printed ≡ line (refusal_text refusal) ++ rest)
+    × (is_refusal (refusal_number refusal) ≡ true
+    → (place : List ℕ) × ExplainsRefusal (refusal_name refusal) place rest)
 
 -- ---- a number
 
@@ -46,11 +53,14 @@ number_in (digit ∷ []) = two_digits_of 48 digit
 number_in (tens ∷ units ∷ []) = two_digits_of tens units
 number_in _ = None
 
--- the text begins with the line of a refusal that has the number, or says that there is none
+-- The text explains a refusal that has the number, if a command may have one. Else it says that there
+-- is none.
 abbrev pub ExplainsNumber : ℕ → List ℕ → Type 0
 ExplainsNumber number printed =
-    ((example : Refusal) × (refusal_number example ≡ number) × BeginsWith example printed)
-    ⊎ (printed ≡ line (codes "no refusal has the number " ++ decimal number))
+    ((is_refusal number ≡ true)
+    × (example : Refusal) × (refusal_number example ≡ number) × BeginsWith example printed)
+    ⊎ ((is_refusal number ≡ false)
+    × (printed ≡ line (codes "no refusal has the number " ++ decimal number)))
 
 -- ---- which file it is
 
@@ -107,11 +117,27 @@ IsValid kind.Script bytes = (script : Script) × SpellsScript script bytes
 IsValid kind.Message bytes = (message : MessageValue) × SpellsMessage message bytes
 IsValid kind.Stations bytes = (rows : List Row) × SpellsTable rows bytes
 
--- the text begins with the line of the refusal, or says that the file is valid
+-- the text begins with the name of another program's files, or else it explains the refusal
+abbrev pub TellsInvalid : Option ForeignKind → Refusal → List ℕ → Type 0
+TellsInvalid (Some kind) refusal printed = BeginsWithForeign kind printed
+TellsInvalid None refusal printed = BeginsWith refusal printed
+
+-- the name of a kind of file
+abbrev pub kind_name : FileKind → List ℕ
+kind_name kind.DataSet = codes "data set"
+kind_name kind.Desk = codes "desk file"
+kind_name kind.Script = codes "desk script"
+kind_name kind.Message = codes "text"
+kind_name kind.Stations = codes "station table"
+
+-- The text tells that the file is invalid, of which kind of another program it is or which refusal
+-- it has, or it says that the file is valid, and of which kind it is.
 abbrev pub ExplainsBytes : List ℕ → List ℕ → Type 0
 ExplainsBytes bytes printed =
-    ((refusal : Refusal) × IsInvalid (kind_of bytes) bytes refusal × BeginsWith refusal printed)
-    ⊎ (IsValid (kind_of bytes) bytes × (rest : List ℕ) × (printed ≡ codes "valid " ++ rest))
+    ((refusal : Refusal) × IsInvalid (kind_of bytes) bytes refusal
+    × TellsInvalid (foreign_kind bytes) refusal printed)
+    ⊎ (IsValid (kind_of bytes) bytes
+    × (printed ≡ line (codes "valid " ++ kind_name (kind_of bytes))))
 
 -- the lines explain the bytes of a named file
 abbrev pub ExplainsFile : Option Files → Text → List ℕ → Type 0

@@ -1,13 +1,13 @@
 -- The messages of a desk that a command prints, and the flights by which they are chosen.
 use Rattle.std.specs.Prelude.{◌≡◌, ℕ, Bool, true, List, [], ◌∷◌, All, filter, map}
 use Rattle.std.specs.List.{AllByRecursion, join_by, list_any}
-use Rattle.ssim_values.specs.Designator.{SpellsDesignator}
 use Rattle.ssim_values.specs.declared.designator.Designator.{Designator}
 use Rattle.ssim_values.specs.declared.fault.Fault.TheVariants as value_fault
 use Rattle.ssim_text.specs.Canonical.{canonical}
 use Rattle.ssim_base.specs.Timetable.{same_flight}
 use Rattle.ssim_text.specs.Message.{MessageValue}
 use Rattle.ssim_mailbox.specs.Texts.{texts_in}
+use Rattle.ssim_words.specs.Flight.{NameEach}
 use Rattle.ssim_held.specs.Entries.{Entry}
 use Rattle.ssim_outbox.specs.MailFile.{IsMail, mail_texts}
 use Rattle.ssim_command_line.specs.Line.{Text}
@@ -16,12 +16,6 @@ use Rattle.ssim_program.specs.Desks.{other_airline}
 use Rattle.ssim_program.specs.declared.refusal.Refusal.TheVariants as refused
 
 -- ---- flights that words name
-
--- each word is the designator at its place
-abbrev pub SpellEach : List Text → List Designator → Type 0
-SpellEach [] [] = Unit {0}
-SpellEach (word ∷ words) (flight ∷ flights) = SpellsDesignator flight word × SpellEach words flights
-SpellEach _ _ = ⊥
 
 -- the flight is of the airline
 abbrev pub IsOf : List ℕ → Designator → Type 0
@@ -32,7 +26,7 @@ IsOf airline flight = flight.airline ≡ airline
 abbrev pub flights_in : List ℕ → List Text → Answer (List Designator)
 flights_in airline words = do
   room ← Gives (tt {0})
-  flights ← OneOr (SpellEach words) (refused.Value value_fault.BadDesignator)
+  flights ← OneOr (NameEach airline words) (refused.Value value_fault.BadDesignator)
   here ← Require (All (IsOf airline) flights) other_airline
   Gives flights
 

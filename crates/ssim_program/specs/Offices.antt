@@ -15,9 +15,10 @@ use Rattle.ssim_held.specs.Held.{Holds, Says}
 use Rattle.ssim_program.specs.Desks.{desk_in}
 use Rattle.ssim_program.specs.Acts.{Act, is_whole, kept_by, printed_by}
 use Rattle.ssim_program.specs.Answer.{Answer}
-use Rattle.ssim_program.specs.Answers.{answers, merge, start, take, withdraw}
+use Rattle.ssim_program.specs.Answers.{answers, carry, merge, start, take, withdraw}
+use Rattle.ssim_program.specs.Carrying.{MeansTheSame}
 use Rattle.ssim_program.specs.Files.{Files, file_of, with_kept}
-use Rattle.ssim_command_line.specs.Line.{Line, Text, Diff}
+use Rattle.ssim_command_line.specs.Line.{Line, Text}
 use Rattle.ssim_program.specs.Receiving.{IsAccepted, Receipt, received, received_files}
 use Rattle.ssim_program.specs.Receiving.{refused_texts, texts_received}
 use Rattle.ssim_program.specs.declared.refusal.Refusal.{Refusal}
@@ -36,6 +37,7 @@ pub data Event : Type 0 where
   ReceiveKept : (refused : Option Text) (desk out : Text) (names : List Text)
       (receipts : List Receipt) → Event
   MergeKept : (mine theirs out : Text) → Event
+  CarryKept : (mine theirs out : Text) → Event
   WithdrawKept : (desk out : Text) (references : List Text) → Event
   Unchanged : Event
   Copied : (from to : Text) → Event
@@ -71,6 +73,7 @@ Leaves (TakeKept desk out texts) old new = IsDone (take (Some old) desk out text
 Leaves (ReceiveKept refused desk out names receipts) old new =
     IsReceived refused desk out names receipts old new
 Leaves (MergeKept mine theirs out) old new = IsDone (merge (Some old) mine theirs out) old new
+Leaves (CarryKept mine theirs out) old new = IsDone (carry (Some old) mine theirs out) old new
 Leaves (WithdrawKept desk out references) old new =
     IsDone (withdraw (Some old) desk out references) old new
 Leaves Unchanged old new = new ≡ old
@@ -87,14 +90,15 @@ Happened (Then history event files) = Happened history × Leaves event (files_of
 
 -- The file of a name after an event: it is the file of some name before; `start` made it of a data
 -- set and a station table; `take` of a desk file and texts; `receive` of a desk file and those
--- texts of mailboxes that have such receipts; `merge` of two desk files; `withdraw` of a desk file
--- and references; or it came from elsewhere.
+-- texts of mailboxes that have such receipts; `merge` or `carry` of two desk files; `withdraw` of a
+-- desk file and references; or it came from elsewhere.
 pub data Origin : Type 0 where
   Was : Text → Origin
   Started : Text → Text → Origin
   Took : Text → List Text → Origin
   TookSome : Text → List Text → List Receipt → Origin
   Merged : Text → Text → Origin
+  Carried : Text → Text → Origin
   Withdrew : Text → List Text → Origin
   Given : List ℕ → Origin
 
@@ -113,6 +117,8 @@ origin_of (TakeKept desk out texts) name =
     if bytes_eq out name then Took desk texts else Was name
 origin_of (MergeKept mine theirs out) name =
     if bytes_eq out name then Merged mine theirs else Was name
+origin_of (CarryKept mine theirs out) name =
+    if bytes_eq out name then Carried mine theirs else Was name
 origin_of (WithdrawKept desk out references) name =
     if bytes_eq out name then Withdrew desk references else Was name
 origin_of (ReceiveKept refused desk out names receipts) name = if bytes_eq out name
@@ -150,15 +156,22 @@ IsAcceptedBy files name names receipts reference message =
     (desk : DeskSeen) × desk_in (Some files) name (Ok desk)
     × IsAccepted desk.base (texts_received files names) receipts reference message
 
+-- the message means the same over the bases of the desks in the files of these names
+abbrev pub MeansTheSameIn : Files → Text → Text → MessageValue → Type 0
+MeansTheSameIn files mine theirs message =
+    (one : DeskSeen) × (other : DeskSeen) × desk_in (Some files) mine (Ok one)
+    × desk_in (Some files) theirs (Ok other) × MeansTheSame one.base other.base message
+
 -- which messages, each under its reference, were brought to the files of which names
 abbrev pub Bringing : Type 1
 Bringing = Text → Reference → MessageValue → Type 0
 
 -- what was brought to a file, by where it comes from: to a new desk nothing; to one that took texts
 -- what they say and what was brought to it before, and so to one that received texts what those say
--- that it accepted; to a merged one what was brought to both; to one without the messages of some
--- references all others that were brought to it before; and to one that came from elsewhere what it
--- holds
+-- that it accepted; to a merged one what was brought to both; to one to which messages were carried
+-- what was brought to it before, and of what was brought to the other what means the same; to one
+-- without the messages of some references all others that were brought to it before; and to one that
+-- came from elsewhere what it holds
 abbrev pub BroughtBy : Origin → Files → Bringing → Reference → MessageValue → Type 0
 BroughtBy (Was name) files before reference message = before name reference message
 BroughtBy (Started dataset stations) files before reference message = ⊥
@@ -168,6 +181,9 @@ BroughtBy (TookSome desk names receipts) files before reference message =
     before desk reference message ⊎ IsAcceptedBy files desk names receipts reference message
 BroughtBy (Merged mine theirs) files before reference message =
     before mine reference message ⊎ before theirs reference message
+BroughtBy (Carried mine theirs) files before reference message =
+    before mine reference message
+    ⊎ (before theirs reference message × MeansTheSameIn files mine theirs message)
 BroughtBy (Withdrew desk references) files before reference message =
     before desk reference message × (IsNamed references reference → ⊥)
 BroughtBy (Given bytes) files before reference message = IsIn bytes reference message
@@ -204,6 +220,7 @@ BeganBy (Started data_file table_file) files before dataset stations =
 BeganBy (Took desk texts) files before dataset stations = before desk dataset stations
 BeganBy (TookSome desk names receipts) files before dataset stations = before desk dataset stations
 BeganBy (Merged mine theirs) files before dataset stations = before mine dataset stations
+BeganBy (Carried mine theirs) files before dataset stations = before mine dataset stations
 BeganBy (Withdrew desk references) files before dataset stations = before desk dataset stations
 BeganBy (Given bytes) files before dataset stations = IsSavedFrom bytes dataset stations
 
@@ -251,29 +268,3 @@ OfficesAgree =
     (one other : History) (name another : Text) → Happened one → Happened other
     → BroughtTheSame one other name another
     → IsSameFile (files_of one) name (files_of other) another
-
--- of equal files the command prints equal bytes
-abbrev pub PrintsTheSame : (Text → Line) → Type 0
-PrintsTheSame command =
-    (files others : Files) (name another : Text) (acts again : List Act)
-    → IsSameFile files name others another
-    → answers (command name) (Some files) (Ok acts)
-    → answers (command another) (Some others) (Ok again)
-    → printed_by acts ≡ printed_by again
-
--- If the command prints of one of two equal files, it is refused of the other only if memory ran out.
-abbrev pub PrintsOfBoth : (Text → Line) → Type 0
-PrintsOfBoth command =
-    (files others : Files) (name another : Text) (acts : List Act) (why : Refusal)
-    → IsSameFile files name others another
-    → answers (command name) (Some files) (Ok acts)
-    → answers (command another) (Some others) (Err why) → IsMemory why
-
--- of two pairs of equal files `diff` prints equal bytes
-abbrev pub DiffPrintsTheSame : Type 0
-DiffPrintsTheSame =
-    (files others : Files) (from to here there : Text) (acts again : List Act)
-    → IsSameFile files from others here → IsSameFile files to others there
-    → answers (Diff from to) (Some files) (Ok acts)
-    → answers (Diff here there) (Some others) (Ok again)
-    → printed_by acts ≡ printed_by again

@@ -12,6 +12,7 @@ use Rattle.ssim_base.specs.declared.place.Place.{Place}
 use Rattle.ssim_base.specs.declared.place.Place.TheVariants.{Line}
 use Rattle.ssim_text.specs.Message.{MessageValue}
 use Rattle.ssim_text.specs.declared.reference.Reference.{Reference}
+use Rattle.ssim_mailbox.specs.Again.{bytes_of}
 use Rattle.ssim_mailbox.specs.Texts.{MailText, texts_in}
 use Rattle.ssim_held.specs.Entries.{AreRising, DeskSeen, state_of}
 use Rattle.ssim_held.specs.File.{desk_file}
@@ -201,3 +202,18 @@ abbrev pub received_files : Option Text → Text → List Receipt → DeskSeen �
 received_files None out receipts after = Keep out (desk_file after.base after.held) ∷ []
 received_files (Some refused) out receipts after =
     Keep refused (refused_texts receipts) ∷ Keep out (desk_file after.base after.held) ∷ []
+
+-- ---- the refused texts, read again
+
+-- the text of a receipt, if it was refused
+abbrev pub refused_of : Receipt → List MailText
+refused_of (Refused file text fault) = text ∷ []
+refused_of _ = []
+
+-- The refused texts that `receive` keeps are a mailbox: its texts are the texts that were refused and
+-- no others, in order and byte for byte.
+abbrev pub RefusedTextsAreMail : Type 0
+RefusedTextsAreMail =
+    (files : Option Files) (file : Text) (names : List Text) (receipts : List Receipt)
+    (after : DeskSeen) → received files file names (Ok (receipts, after))
+    → bytes_of (texts_in (refused_texts receipts)) ≡ bytes_of (flat_map refused_of receipts)

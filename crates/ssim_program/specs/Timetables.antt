@@ -3,20 +3,23 @@ use Rattle.std.specs.Prelude.{◌≡◌, ◌⊎◌, List, [], ◌∷◌, ℕ, If
 use Rattle.std.specs.Prelude.{codes, nat_eq}
 use Rattle.std.specs.List.{starts_with}
 use Rattle.ssim_base.specs.BaseSeen.{base_with}
+use Rattle.ssim_base.specs.declared.fault.BaseFault.{BaseFault}
 use Rattle.ssim_base.specs.declared.note.Note.{Note}
 use Rattle.ssim_records.specs.Carrier.{CarrierFields}
 use Rattle.ssim_records.specs.Header.{HeaderFields}
 use Rattle.ssim_records.specs.declared.record.Record.{Record}
 use Rattle.ssim_records.specs.declared.record.Record.TheVariants.{Header, Carrier}
 use Rattle.ssim_held.specs.Entries.{DeskSeen}
+use Rattle.ssim_held.specs.declared.fault.DeskFault.TheVariants as desk_fault
 use Rattle.ssim_command_line.specs.Line.{Text}
 use Rattle.ssim_program.specs.Answer.{Answer, Finds}
 use Rattle.ssim_program.specs.Desks.{desk_in}
 use Rattle.ssim_program.specs.Files.{Files, file_of}
-use Rattle.ssim_program.specs.Made.{ReadsFile, RefusesFile, RefusesLoad}
+use Rattle.ssim_program.specs.Made.{IsOfBytes, ReadsFile, RefusesLoad}
 use Rattle.ssim_program.specs.declared.explain.file_kind.FileKind.{FileKind}
 use Rattle.ssim_program.specs.declared.explain.file_kind.FileKind.TheVariants as kind
 use Rattle.ssim_program.specs.declared.refusal.Refusal.{Refusal}
+use Rattle.ssim_program.specs.declared.refusal.Refusal.TheVariants as refused
 
 -- a file is a desk file if it begins as one, and else a data set
 abbrev pub timetable_kind : List ℕ → FileKind
@@ -42,18 +45,41 @@ ReadsTimetable files name desk =
     (BeginsAs kind.Desk files name × desk_in files name (Ok desk))
     ⊎ (BeginsAs kind.DataSet files name × ReadsAsDesk files name desk)
 
--- Why no timetable is read of a file: the file is not loaded; or it begins as a desk file, and is
--- none (62); or it is no data set.
-abbrev pub RefusesTimetable : Option Files → Text → Refusal → Type 0
-RefusesTimetable files name refusal =
+-- Why a file is not read to its end, or is no desk: it is not loaded; or it begins as a desk file, and
+-- is none (62).
+abbrev pub RefusesReading : Option Files → Text → Refusal → Type 0
+RefusesReading files name refusal =
     RefusesLoad files name refusal
     ⊎ (BeginsAs kind.Desk files name × desk_in files name (Err refusal))
-    ⊎ (BeginsAs kind.DataSet files name × RefusesFile files name refusal)
+
+-- the file of this name does not begin as a desk file, and has this fault as a data set
+abbrev pub HasFault : Option Files → Text → BaseFault → Type 0
+HasFault files name fault =
+    BeginsAs kind.DataSet files name × IsOfBytes fault × ReadsFile files name (Err fault)
+
+-- why no timetable is read of a file, if the faults of data sets are refused as this says
+abbrev pub RefusesAs : (BaseFault → Refusal) → Option Files → Text → Refusal → Type 0
+RefusesAs refusal_of files name refusal =
+    RefusesReading files name refusal
+    ⊎ ((fault : BaseFault) × HasFault files name fault × (refusal ≡ refusal_of fault))
+
+-- why no timetable is read of a file: a data set is refused for its own fault
+abbrev pub RefusesTimetable : Option Files → Text → Refusal → Type 0
+RefusesTimetable = RefusesAs refused.DataSet
 
 -- the desk whose timetable the file of this name has
 abbrev pub timetable_in : Option Files → Text → Answer DeskSeen
 timetable_in files name (Ok desk) = ReadsTimetable files name desk
 timetable_in files name (Err why) = RefusesTimetable files name why
+
+-- a file that is neither a desk file nor a data set is no desk file (62)
+abbrev pub no_desk_file : BaseFault → Refusal
+no_desk_file fault = refused.Desk (desk_fault.File 0)
+
+-- the desk in the file of this name; a data set is one that holds no message
+abbrev pub shown_in : Option Files → Text → Answer DeskSeen
+shown_in files name (Ok desk) = ReadsTimetable files name desk
+shown_in files name (Err why) = RefusesAs no_desk_file files name why
 
 -- a base begins with a header and this carrier record
 abbrev pub HasCarrier : List Record → CarrierFields → Type 0

@@ -13,7 +13,7 @@ use Rattle.ssim_program.specs.Desks.{desk_in}
 use Rattle.ssim_program.specs.Files.{Files, file_of}
 use Rattle.ssim_program.specs.Offices.{Began, Bringing, Brought, BroughtBy, Event, IsIn, Leaves}
 use Rattle.ssim_program.specs.Offices.{Origin, origin_of}
-use Rattle.ssim_program.specs.Offices.{Took, TookSome, Merged, Withdrew}
+use Rattle.ssim_program.specs.Offices.{Took, TookSome, Merged, Carried, Withdrew}
 use Rattle.ssim_program.specs.Withdrawing.{IsNamed}
 
 -- ---- steps
@@ -146,12 +146,13 @@ HoldsWhatCameInTurn =
 -- ---- nothing is lost
 
 -- A file of this origin leaves the message of the reference in the file of this name, if it was
--- there: it is made of the file of this name, in place, by `take`, `receive` or `merge`, or by
--- `withdraw` of other references.
+-- there: it is made of the file of this name, in place, by `take`, `receive`, `merge` or `carry`, or
+-- by `withdraw` of other references.
 abbrev pub LeavesMessage : Text → Reference → Origin → Type 0
 LeavesMessage name reference (Took desk texts) = desk ≡ name
 LeavesMessage name reference (TookSome desk names receipts) = desk ≡ name
 LeavesMessage name reference (Merged mine theirs) = (mine ≡ name) ⊎ (theirs ≡ name)
+LeavesMessage name reference (Carried mine theirs) = mine ≡ name
 LeavesMessage name reference (Withdrew desk references) =
     (desk ≡ name) × (IsNamed references reference → ⊥)
 LeavesMessage name reference origin = ⊥

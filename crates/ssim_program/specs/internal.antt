@@ -8,4 +8,5 @@ pub mod Explain
 pub mod DataSet
 pub mod Rehearse
 pub mod Print
+pub mod Carry
 pub mod Diff

@@ -6,3 +6,4 @@ pub mod Shown
 pub mod Listing
 pub mod Calendar
 pub mod Paper
+pub mod Page

@@ -8,7 +8,9 @@ ghost use Rattle.ssim_program.specs.internal.Program.{AreLines, MadeItself, Make
 
 pub(crate) mod board;
 pub(crate) mod calendar;
+pub(crate) mod carry;
 pub(crate) mod check;
+pub(crate) mod choice;
 pub(crate) mod diff;
 pub(crate) mod export;
 pub(crate) mod findings;
@@ -20,6 +22,7 @@ pub(crate) mod page;
 pub(crate) mod problems;
 pub(crate) mod publish;
 pub(crate) mod receive;
+pub(crate) mod select;
 pub(crate) mod show;
 pub(crate) mod start;
 pub(crate) mod take;
@@ -73,6 +76,7 @@ pub(crate) fn make<'r, S: Store>(
             texts,
         } => receive::receive(alloc, *refused, desk, out, texts, store),
         Request::Merge { desk, other, out } => merge::merge(alloc, desk, other, out, store),
+        Request::Carry { desk, other, out } => carry::carry(alloc, desk, other, out, store),
         Request::Withdraw {
             desk,
             out,
@@ -89,11 +93,11 @@ pub(crate) fn make<'r, S: Store>(
         Request::Check { dataset } => lines(check::check(alloc, dataset, store)),
         Request::Problems { dataset } => lines(problems::problems(alloc, dataset, store)),
         Request::Texts { desk, flights } => lines(texts::texts(alloc, desk, flights, store)),
-        Request::Show { desk, flight, date } => {
-            lines(show::show_flight(alloc, desk, flight, date, store))
+        Request::Show { file, flight, date } => {
+            lines(show::show_flight(alloc, file, flight, date, store))
         }
-        Request::History { desk, flight, date } => {
-            lines(history::history(alloc, desk, flight, date, store))
+        Request::History { file, flight, date } => {
+            lines(history::history(alloc, file, flight, date, store))
         }
         Request::Board {
             file,
@@ -108,9 +112,14 @@ pub(crate) fn make<'r, S: Store>(
         Request::Calendar { file, flight } => {
             lines(calendar::calendar(alloc, file, flight, store))
         }
-        Request::Page { file } => lines(page::page(alloc, file, store)),
+        Request::Page { from, file } => lines(page::page(alloc, *from, file, store)),
         Request::Diff { from, to } => lines(diff::diff(alloc, from, to, store)),
         Request::Findings { desk } => lines(findings::findings(alloc, desk, store)),
+        Request::Select {
+            choice,
+            file,
+            flights,
+        } => select::select(alloc, choice, file, flights, store),
         Request::Rehearse {
             dataset,
             stations,

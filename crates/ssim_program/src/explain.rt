@@ -12,6 +12,7 @@ ghost use Rattle.ssim_program.specs.internal.Program.{Answers};
 mod example;
 mod file;
 pub(crate) mod file_kind;
+pub(crate) mod foreign;
 
 use crate::data_set::load_file;
 use crate::refusal::Refusal;

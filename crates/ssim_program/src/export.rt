@@ -6,6 +6,7 @@ ghost use Rattle.ssim_records.specs.declared.record.Record.{Record};
 ghost use Rattle.ssim_base.specs.Base.{airline_of};
 ghost use Rattle.ssim_base.specs.Timetable.{Days, days_of};
 ghost use Rattle.ssim_desk.specs.Desk.{days_of_desk};
+ghost use Rattle.ssim_parts.specs.Chosen.{chosen_days};
 ghost use Rattle.ssim_program.specs.Again.{GrowsByItself};
 ghost use Rattle.ssim_program.specs.internal.Export.{IsWritten, PrintsExport};
 ghost use Rattle.ssim_program.specs.print.Paper.{Paper};
@@ -14,6 +15,7 @@ use crate::print::printer::Printer;
 use crate::refusal::Refusal;
 use ssim_base::DataSet;
 use ssim_desk::Holdings;
+use ssim_parts::{Choice, choose};
 use ssim_schedule::{ExportFault, export_data_set};
 use ssim_values::Airline;
 use std::io::Write;
@@ -39,6 +41,37 @@ pub(crate) fn export_desk<W: Write>(desk: Holdings, out: &mut Printer<'_, W>) ->
     let airline = desk.data_set().airline();
     let written = desk.export(out);
     end_export(airline, written, out)
+}
+
+/// Prints the canonical export of the chosen part of what a desk has.
+pub(crate) fn export_part<W: Write>(
+    desk: Holdings,
+    choice: &Choice,
+    out: &mut Printer<'_, W>,
+) -> Result<(), Refusal>
+    ensures printed { PrintsExport desk.base.records
+        (chosen_days choice.now (days_of_desk desk)) out.old out.new result }
+    ensures again { OnOk result (GrowsByItself out.old.taken out.new.taken) }
+{
+    let airline = desk.data_set().airline();
+    let written = write_part(desk, choice, out);
+    end_export(airline, written, out)
+}
+
+/// Writes the canonical export of the chosen part of what a desk has.
+fn write_part<W: Write>(
+    desk: Holdings,
+    choice: &Choice,
+    out: &mut Printer<'_, W>,
+) -> Result<(), ExportFault>
+    ensures { IsWritten desk.base.records (chosen_days choice.now (days_of_desk desk))
+        out.old out.new result }
+{
+    let frame = desk.base().frame().copy();
+    let mut schedule = desk.schedule()?;
+    drop(desk);
+    choose(choice, &mut schedule)?;
+    schedule.export_in(&frame, out)
 }
 
 /// Flushes `out` after an export of this airline's flights was written to it; or makes the refusal

@@ -6,7 +6,7 @@ ghost use Rattle.ssim_program.specs.internal.Program.{MadeItself, keeps, will};
 ghost use Rattle.ssim_program.specs.print.Paper.{Paper};
 
 use crate::command::take::take_texts;
-use crate::export::{export_desk, export_set};
+use crate::export::{export_desk, export_part, export_set};
 use crate::hold::keep_content;
 use crate::made::{Kept, Made};
 use crate::print::printer::{Printer, print_all};
@@ -63,6 +63,7 @@ pub(crate) fn finish<S: Store, W: Write>(
         }
         Made::DataSet(data_set) => export_set(data_set, out),
         Made::Desk(desk) => export_desk(desk, out),
+        Made::Part { desk, choice } => export_part(desk, &choice, out),
         Made::Texts { place, desk, names } => take_texts(alloc, &place, desk, names, store, out),
     }
 }

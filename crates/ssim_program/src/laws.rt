@@ -1,16 +1,21 @@
 //! What holds of the bytes that the commands write, and of desk files after any commands.
 
-ghost use Rattle.std.specs.Prelude.{List};
-ghost use Rattle.ssim_command_line.specs.Line.{Board, Calendar, Check, Export, Findings, History, Show};
-ghost use Rattle.ssim_command_line.specs.Line.{Text, Texts, Withdraw, Listing, Page, Problems, Tidy};
+ghost use Rattle.std.specs.Prelude.{List, None, Some};
+ghost use Rattle.ssim_command_line.specs.Line.{Board, Calendar, Carry, Check, ChoiceTexts, Diff};
+ghost use Rattle.ssim_command_line.specs.Line.{Export, Findings, Select};
+ghost use Rattle.ssim_command_line.specs.Line.{History, Listing, Page, Problems, Show, Text, Texts};
+ghost use Rattle.ssim_command_line.specs.Line.{Tidy, Withdraw};
 ghost use Rattle.ssim_command_line.specs.declared.command_line.ListForm.{ListForm};
 ghost use Rattle.ssim_program.specs.Again.{TidiesOnce};
 ghost use Rattle.ssim_program.specs.Calls.{CommandsAreEvents};
-ghost use Rattle.ssim_program.specs.Conflicts.{MergeMeetsTwo, ReceiveMeetsTwo, TakeMeetsTwo};
+ghost use Rattle.ssim_program.specs.Conflicts.{CarryMeetsTwo, MergeMeetsTwo};
+ghost use Rattle.ssim_program.specs.Conflicts.{ReceiveMeetsTwo, TakeMeetsTwo};
+ghost use Rattle.ssim_program.specs.EqualFiles.{CarriesAsMerges, DoesTheSame, DoesTheSameOfPairs};
+ghost use Rattle.ssim_program.specs.EqualFiles.{PrintsTheSame, PrintsTheSameOfPairs};
 ghost use Rattle.ssim_program.specs.Messages.{TextsAreMail};
-ghost use Rattle.ssim_program.specs.Offices.{DiffPrintsTheSame, HoldsWhatWasBrought};
-ghost use Rattle.ssim_program.specs.Offices.{OfficesAgree, PrintsOfBoth, PrintsTheSame};
+ghost use Rattle.ssim_program.specs.Offices.{HoldsWhatWasBrought, OfficesAgree};
 ghost use Rattle.ssim_program.specs.FirstProblem.{RefusalIsFirstProblem};
+ghost use Rattle.ssim_program.specs.Receiving.{RefusedTextsAreMail};
 ghost use Rattle.ssim_program.specs.Turns.{HoldsWhatCameInTurn, NothingHeldIsLost};
 ghost use Rattle.ssim_program.specs.Turns.{NothingTakenIsLost, TakesTurns};
 ghost use Rattle.ssim_program.specs.print.Refusal.{MemoryHasOneLine};
@@ -24,6 +29,7 @@ use ssim_base::laws::{
     same_bytes_same_base, same_bytes_same_problems, same_bytes_same_rows, written_bases_are_read,
 };
 use ssim_desk::laws::{any_two_desks_agree, no_two_desks_have_one_file};
+use ssim_mailbox::texts_read_again;
 use ssim_outbox::laws::mailboxes_read;
 use ssim_records::frames_are_one;
 use ssim_text::laws::{canonical_reads_back, one_message, one_reference};
@@ -67,56 +73,61 @@ pub fn nothing_taken_is_lost()
     offices_agree();
 }
 
-/// Of two equal desk files `texts`, `show`, `history`, `findings` and `export` print the same: the
-/// messages, each flight on each date, which message did what to it, what each sub-message found, and
-/// the chapter 7 data set, byte for byte. So does `withdraw`: what became of each reference.
-pub fn equal_files_print_the_same()
-    ensures texts { (flights : List Text) → PrintsTheSame (λ file. Texts file flights) }
+/// Of two equal desk files `texts`, `findings` and `export` do the same. They print the same bytes:
+/// the messages, what each sub-message found, and the chapter 7 data set. Or they are refused for the
+/// same: if one is refused and the other is not, memory ran out (90). `withdraw` prints the same: what
+/// became of each reference. So does `carry` of two pairs of equal desk files: what became of each
+/// message.
+pub fn equal_desk_files_do_the_same()
+    ensures texts { (flights : List Text) → DoesTheSame (λ file. Texts file flights) }
     ensures withdraw { (out : Text) (references : List Text)
         → PrintsTheSame (λ file. Withdraw file out references) }
-    ensures show { (flight date : Text) → PrintsTheSame (λ file. Show file flight date) }
-    ensures history { (flight date : Text) → PrintsTheSame (λ file. History file flight date) }
-    ensures findings { PrintsTheSame Findings }
-    ensures export { PrintsTheSame Export }
+    ensures carry { (out : Text) → PrintsTheSameOfPairs (λ desk other. Carry desk other out) }
+    ensures findings { DoesTheSame Findings }
+    ensures export { DoesTheSame Export }
 {
     one_reference();
     no_two_desks_have_one_file();
 }
 
-/// Of two equal desk files, or of two equal data sets, `list`, `board`, `calendar` and `page` print the
-/// same: the periods or the dates of each flight, what is on a board, a calendar, and the page, byte
-/// for byte. So does `diff` of two pairs of equal files.
-pub fn equal_timetables_print_the_same()
-    ensures board { (station date : Text) → PrintsTheSame (λ file. Board file station date) }
+/// Of two equal desk files, or of two equal data sets, `show`, `history`, `list`, `board`, `calendar`,
+/// `page` and `select` do the same: they print the same bytes, or are refused for the same. So do
+/// `diff` and `page` of two pairs of equal files.
+pub fn equal_timetables_do_the_same()
+    ensures show { (flight date : Text) → DoesTheSame (λ file. Show file flight date) }
+    ensures history { (flight date : Text) → DoesTheSame (λ file. History file flight date) }
+    ensures board { (station date : Text) → DoesTheSame (λ file. Board file station date) }
     ensures list { (form : ListForm) (flights : List Text)
-        → PrintsTheSame (λ file. Listing form file flights) }
-    ensures calendar { (flight : Text) → PrintsTheSame (λ file. Calendar file flight) }
-    ensures page { PrintsTheSame Page }
-    ensures diff { DiffPrintsTheSame }
+        → DoesTheSame (λ file. Listing form file flights) }
+    ensures calendar { (flight : Text) → DoesTheSame (λ file. Calendar file flight) }
+    ensures page { DoesTheSame (Page None) }
+    ensures select { (words : ChoiceTexts) (flights : List Text)
+        → DoesTheSame (λ file. Select words file flights) }
+    ensures diff { DoesTheSameOfPairs Diff }
+    ensures changed_page { DoesTheSameOfPairs (λ from. Page (Some from)) }
 {
+    frames_are_one();
     no_two_desks_have_one_file();
     same_bytes_same_base();
 }
 
-/// Of two equal data sets `check`, `problems` and `tidy` print the same: the notes and the summary,
-/// every invalid record, and the canonical export.
-pub fn equal_data_sets_print_the_same()
-    ensures check { PrintsTheSame Check }
-    ensures problems { PrintsTheSame Problems }
-    ensures tidy { PrintsTheSame Tidy }
+/// Of two equal data sets `check`, `problems` and `tidy` do the same: they print the same notes and
+/// summary, the same invalid records, and the same canonical export, or are refused for the same
+/// invalid record.
+pub fn equal_data_sets_do_the_same()
+    ensures check { DoesTheSame Check }
+    ensures problems { DoesTheSame Problems }
+    ensures tidy { DoesTheSame Tidy }
 {
+    frames_are_one();
     same_bytes_same_base();
     same_bytes_same_problems();
 }
 
-/// If `texts`, `show`, `history`, `findings` or `export` prints of one of two equal desk files, it is
-/// refused of the other only if memory runs out (90).
-pub fn equal_desk_files_are_read_the_same()
-    ensures texts { (flights : List Text) → PrintsOfBoth (λ file. Texts file flights) }
-    ensures show { (flight date : Text) → PrintsOfBoth (λ file. Show file flight date) }
-    ensures history { (flight date : Text) → PrintsOfBoth (λ file. History file flight date) }
-    ensures findings { PrintsOfBoth Findings }
-    ensures export { PrintsOfBoth Export }
+/// Of two desk files over one base `carry` keeps what `merge` keeps, byte for byte, or both are
+/// refused for the same.
+pub fn carrying_is_merging()
+    ensures { CarriesAsMerges }
 {
     no_two_desks_have_one_file();
 }
@@ -139,12 +150,13 @@ pub fn refusal_is_first_problem()
     frames_are_one();
 }
 
-/// If `take` or `merge`, or a text of `receive`, is refused for a conflict (60), two different messages
-/// have its reference, of those that the desks hold and the texts say. So if no originator gives two
-/// messages one reference, none is refused so.
+/// If `take`, `merge` or `carry`, or a text of `receive`, is refused for a conflict (60), two
+/// different messages have its reference, of those that the desks hold and the texts say. So if no
+/// originator gives two messages one reference, none is refused so.
 pub fn conflicts_have_two_messages()
     ensures take { TakeMeetsTwo }
     ensures merge { MergeMeetsTwo }
+    ensures carry { CarryMeetsTwo }
     ensures receive { ReceiveMeetsTwo }
 {
     one_message();
@@ -156,6 +168,15 @@ pub fn printed_texts_are_mail()
     ensures { TextsAreMail }
 {
     mailboxes_read();
+}
+
+/// The refused texts that `receive` keeps, each with a line `NNNN` below it, are a mailbox of the
+/// texts that were refused and no others, in order and byte for byte. So each is tried again if the
+/// file is received.
+pub fn refused_texts_are_mail()
+    ensures { RefusedTextsAreMail }
+{
+    texts_read_again();
 }
 
 /// A refusal with the number 90 has the line `refused 90 Memory`, whichever fault it wraps.

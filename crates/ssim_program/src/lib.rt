@@ -16,11 +16,11 @@
 //! has written exactly what its definition makes of the files that it names, and kept exactly the
 //! files that it writes. With status 1 the whole line of one refusal was written to `err`, unless
 //! `err` failed. If the refusal is 52, `out` failed and has a prefix, and a file that `start`,
-//! `merge`, `withdraw` or `publish` kept stays. If it is another, no file has changed and nothing
-//! was written to `out`, but `take` has printed what became of the texts before the one that is
-//! refused, and `receive` what became of all texts if a file is not kept: its refused texts, or its
-//! desk after them. A command holds the files that it keeps before it reads any, and replaces none of
-//! another kind. Help goes to `out`, and what is wrong with the words to `err`.
+//! `merge`, `carry`, `withdraw` or `publish` kept stays. If it is another, no file has changed and
+//! nothing was written to `out`, but `take` has printed what became of the texts before the one that
+//! is refused, and `receive` what became of all texts if a file is not kept: its refused texts, or
+//! its desk after them. A command holds the files that it keeps before it reads any, and replaces
+//! none of another kind. Help goes to `out`, and what is wrong with the words to `err`.
 #![tactic(auto)]
 
 mod command;

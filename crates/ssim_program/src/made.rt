@@ -7,6 +7,7 @@ use crate::content::Content;
 use crate::store::Hold;
 use ssim_base::{DataSet, WriteFault};
 use ssim_desk::{Holdings, Intake};
+use ssim_parts::Choice;
 use ssim_records::Sink;
 
 /// What is kept in a file.
@@ -57,6 +58,11 @@ pub(crate) enum Made<'n, H: Hold + Drop> {
     DataSet(DataSet),
     /// A desk to be exported.
     Desk(Holdings),
+    /// The chosen part of what a desk has, to be exported.
+    Part {
+        desk: Holdings,
+        choice: Choice,
+    },
     /// The files of texts that a desk is to take, and the place of the desk.
     Texts {
         place: H,

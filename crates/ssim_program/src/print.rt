@@ -3,6 +3,7 @@
 pub(crate) mod fault_line;
 pub(crate) mod finding;
 pub(crate) mod legs;
+pub(crate) mod message_articles;
 pub(crate) mod name;
 pub(crate) mod note;
 pub(crate) mod printed_line;

@@ -26,6 +26,9 @@ pub enum Refusal {
     /// 21: a word of the command line is no reference.
     #[error("expected a reference")]
     Reference,
+    /// 25: a word of the command line is no aircraft type.
+    #[error("expected an aircraft type")]
+    Aircraft,
     /// 10 to 14, or 30 to 38: the data set is invalid at a record.
     #[error("{0}")]
     DataSet(BaseFault),
@@ -84,6 +87,7 @@ impl Refusal {
         match self {
             Refusal::Value(fault) => fault.number(),
             Refusal::Reference => ssim_text::Fault::BadReference.number(),
+            Refusal::Aircraft => ssim_text::Fault::BadEquipment.number(),
             Refusal::DataSet(fault) => fault.number(),
             Refusal::Stations(fault) => fault.number(),
             Refusal::Desk(fault) => fault.number(),
@@ -105,6 +109,7 @@ impl Refusal {
         match self {
             Refusal::Value(fault) => fault.name(),
             Refusal::Reference => ssim_text::Fault::BadReference.name(),
+            Refusal::Aircraft => ssim_text::Fault::BadEquipment.name(),
             Refusal::DataSet(fault) => fault.name(),
             Refusal::Stations(fault) => fault.name(),
             Refusal::Desk(fault) => fault.name(),
@@ -132,6 +137,7 @@ impl Refusal {
             Refusal::Script { line } => Place::Line(*line),
             Refusal::Value(_)
             | Refusal::Reference
+            | Refusal::Aircraft
             | Refusal::WriteFault
             | Refusal::Memory
             | Refusal::File { .. }

@@ -1,17 +1,17 @@
 //! The timetable in a file, a desk file or a data set, and its carrier record.
 
-ghost use Rattle.std.specs.Prelude.{◌≡◌, IfErr, IfOk, IfSome, Option};
+ghost use Rattle.std.specs.Prelude.{◌≡◌, Err, IfErr, IfOk, IfSome, Option};
 ghost use Rattle.ssim_program.specs.Files.{Files, IsOpened};
-ghost use Rattle.ssim_program.specs.Made.{RefusesFile};
-ghost use Rattle.ssim_program.specs.Timetables.{HasCarrier, ReadsAsDesk, ReadsTimetable};
-ghost use Rattle.ssim_program.specs.Timetables.{RefusesTimetable};
+ghost use Rattle.ssim_program.specs.Made.{IsOfBytes, ReadsFile, RefusesLoad};
+ghost use Rattle.ssim_program.specs.Timetables.{HasCarrier, HasFault, ReadsAsDesk, ReadsTimetable};
+ghost use Rattle.ssim_program.specs.Timetables.{RefusesReading, RefusesTimetable, shown_in};
 
 use crate::data_set::{open_file, read_opened};
 use crate::desk_file::read_desk;
 use crate::refusal::Refusal;
 use crate::store::Store;
-use ssim_base::Stations;
-use ssim_desk::Holdings;
+use ssim_base::{BaseFault, Stations};
+use ssim_desk::{DeskFault, Holdings};
 use ssim_records::{Carrier, Peekable, Source};
 use std::alloc::Global;
 
@@ -28,37 +28,76 @@ pub(crate) fn open_timetable<S: Store>(
     ensures counted { S.failures store.new ≡ S.failures store.old }
 {
     let file = open_file(alloc, name, store)?;
-    read_timetable(alloc, name, file)
+    match read_timetable(alloc, name, file) {
+        Ok(Ok(desk)) => Ok(desk),
+        Ok(Err(fault)) => Err(Refusal::from(fault)),
+        Err(refusal) => Err(refusal),
+    }
+}
+
+/// The desk of `open_timetable`, for commands that say what messages did. A file that is neither a
+/// desk file nor a data set is refused as no desk file (62).
+pub(crate) fn open_shown<S: Store>(
+    alloc: Global,
+    name: &str,
+    store: &mut S,
+) -> Result<Holdings, Refusal>
+    ensures answer { shown_in (S.files store.old) name.now result }
+    ensures same { S.files store.new ≡ S.files store.old }
+    ensures counted { S.failures store.new ≡ S.failures store.old }
+{
+    let file = open_file(alloc, name, store)?;
+    match read_timetable(alloc, name, file) {
+        Ok(Ok(desk)) => Ok(desk),
+        Ok(Err(_)) => Err(Refusal::from(DeskFault::File(0))),
+        Err(refusal) => Err(refusal),
+    }
 }
 
 /// The desk whose timetable a file has that was opened under this name: a desk file if it begins as
-/// one, and else a data set.
-fn read_timetable<F: Source + Drop>(alloc: Global, name: &str, file: F) -> Result<Holdings, Refusal>
+/// one, and else a data set, or its fault.
+fn read_timetable<F: Source + Drop>(
+    alloc: Global,
+    name: &str,
+    file: F,
+) -> Result<Result<Holdings, BaseFault>, Refusal>
     ensures read { (files : Option Files) → IsOpened files name.now (F.state file).left
-        → IfOk result (ReadsTimetable files name.now) }
+        → IfOk result (λ read. IfOk read (ReadsTimetable files name.now)) }
+    ensures fault { (files : Option Files) → IsOpened files name.now (F.state file).left
+        → IfOk result (λ read. IfErr read (HasFault files name.now)) }
     ensures refused { (files : Option Files) → IsOpened files name.now (F.state file).left
         → IfSome files (λ _. (other : F) → (F.state other).failures ≡ 0)
-        → IfErr result (RefusesTimetable files name.now) }
+        → IfErr result (RefusesReading files name.now) }
 {
     let mut file = Peekable::new(file);
     match file.begins_with(b"SSIMDESK ") {
-        Ok(true) => read_desk(alloc, name, file),
+        Ok(true) => match read_desk(alloc, name, file) {
+            Ok(desk) => Ok(Ok(desk)),
+            Err(refusal) => Err(refusal),
+        },
         Ok(false) => read_data_set(alloc, name, file),
         Err(_) => Err(Refusal::of_file(alloc, name)),
     }
 }
 
-/// The desk of the data set in a file that was opened under this name.
-fn read_data_set<F: Source + Drop>(alloc: Global, name: &str, file: F) -> Result<Holdings, Refusal>
+/// The desk of the data set in a file that was opened under this name, or the data set's fault.
+fn read_data_set<F: Source + Drop>(
+    alloc: Global,
+    name: &str,
+    file: F,
+) -> Result<Result<Holdings, BaseFault>, Refusal>
     ensures read { (files : Option Files) → IsOpened files name.now (F.state file).left
-        → IfOk result (ReadsAsDesk files name.now) }
+        → IfOk result (λ read. IfOk read (ReadsAsDesk files name.now)) }
+    ensures fault { (files : Option Files) → IsOpened files name.now (F.state file).left
+        → IfOk result (λ read. IfErr read
+        (λ e. IsOfBytes e × ReadsFile files name.now (Err e))) }
     ensures refused { (files : Option Files) → IsOpened files name.now (F.state file).left
         → IfSome files (λ _. (other : F) → (F.state other).failures ≡ 0)
-        → IfErr result (RefusesFile files name.now) }
+        → IfErr result (RefusesLoad files name.now) }
 {
     match read_opened(alloc, name, file) {
-        Ok(Ok(data_set)) => Ok(Holdings::start(alloc, data_set, Stations::new(alloc))),
-        Ok(Err(fault)) => Err(Refusal::from(fault)),
+        Ok(Ok(data_set)) => Ok(Ok(Holdings::start(alloc, data_set, Stations::new(alloc)))),
+        Ok(Err(fault)) => Ok(Err(fault)),
         Err(refusal) => Err(refusal),
     }
 }

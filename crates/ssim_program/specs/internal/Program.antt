@@ -4,6 +4,7 @@ use Rattle.std.specs.Prelude.{None, Some, Result, Ok, Err, ⊤}
 use Rattle.ssim_base.specs.Timetable.{days_of}
 use Rattle.ssim_desk.specs.Desk.{days_of_desk}
 use Rattle.ssim_held.specs.File.{desk_file}
+use Rattle.ssim_parts.specs.Chosen.{chosen_days}
 use Rattle.ssim_program.specs.Acts.{Act, Print, Keep, prints}
 use Rattle.ssim_program.specs.Again.{GrowsByItself}
 use Rattle.ssim_program.specs.Answer.{Answer}
@@ -53,6 +54,9 @@ Makes file files answer (made.DataSet set) = (result : Result (List Act) Refusal
     → prints (export_in set (days_of set)) result → answer result
 Makes file files answer (made.Desk desk) = (result : Result (List Act) Refusal)
     → prints (export_in desk.base.records (days_of_desk desk)) result → answer result
+Makes file files answer (made.Part desk choice) = (result : Result (List Act) Refusal)
+    → prints (export_in desk.base.records (chosen_days choice (days_of_desk desk))) result
+    → answer result
 Makes file files answer (made.Texts place desk names) = (result : Result (List Act) Refusal)
     → take_each files (file place) (map (λ t. t.now) names.now) desk result → answer result
 
@@ -76,13 +80,16 @@ will file files (made.Printed lines refused kept) =
     exactly (Print lines.items ∷ keeps file refused kept)
 will file files (made.DataSet set) = prints (export_in set (days_of set))
 will file files (made.Desk desk) = prints (export_in desk.base.records (days_of_desk desk))
+will file files (made.Part desk choice) =
+    prints (export_in desk.base.records (chosen_days choice (days_of_desk desk)))
 will file files (made.Texts place desk names) =
     take_each files (file place) (map (λ t. t.now) names.now) desk
 
--- what a data set or a desk prints is read as itself; nothing is said of other things made
+-- what a data set, a desk or a part prints is read as itself; nothing is said of other things made
 abbrev pub MadeItself : {H : Type 0} → Made H → Option (List ℕ) → Option (List ℕ) → Type 0
 MadeItself (made.DataSet set) before after = GrowsByItself before after
 MadeItself (made.Desk desk) before after = GrowsByItself before after
+MadeItself (made.Part desk choice) before after = GrowsByItself before after
 MadeItself _ before after = ⊤
 
 -- a command has made an answer, or is refused as the answer says

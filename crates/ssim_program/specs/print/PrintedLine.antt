@@ -11,7 +11,7 @@ use Rattle.ssim_program.specs.declared.print.printed_line.PrintedLine.TheVariant
 
 -- the text of a line: a note on a record's serial or check reference; the summary of records,
 -- flights and notes; the number of records and problems; what became of a text; what became of a
--- reference; how many messages a desk holds
+-- reference; a message that is not carried; how many messages a desk holds
 abbrev pub printed_text : PrintedLine → List ℕ
 printed_text (printed.SerialNote n) = codes "note Serial record " ++ decimal n
 printed_text (printed.CheckReferenceNote n) = codes "note CheckReference record " ++ decimal n
@@ -25,6 +25,7 @@ printed_text (printed.Taken reference) = codes "taken " ++ printed_reference ref
 printed_text (printed.Repeated reference) = codes "repeated " ++ printed_reference reference
 printed_text (printed.Withdrawn reference) = codes "withdrawn " ++ printed_reference reference
 printed_text (printed.NotHeld reference) = codes "not held " ++ printed_reference reference
+printed_text (printed.Left reference) = codes "left " ++ printed_reference reference
 printed_text (printed.Held n) = codes "held " ++ decimal n
 
 -- on how many dates a sub-message acted, and on how many each reason kept it from acting

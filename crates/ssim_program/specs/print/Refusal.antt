@@ -24,6 +24,7 @@ use Rattle.ssim_program.specs.declared.refusal.Refusal.TheVariants as refusal
 abbrev pub refusal_number : Refusal → ℕ
 refusal_number (refusal.Value fault) = fault_number fault
 refusal_number refusal.Reference = text.fault_number text_fault.BadReference
+refusal_number refusal.Aircraft = text.fault_number text_fault.BadEquipment
 refusal_number (refusal.DataSet fault) = base_fault_number fault
 refusal_number (refusal.Stations fault) = station_fault_number fault
 refusal_number (refusal.Desk fault) = desk_fault_number fault
@@ -40,6 +41,7 @@ refusal_number (refusal.Occupied name) = 93
 abbrev pub refusal_name : Refusal → List ℕ
 refusal_name (refusal.Value fault) = fault_name fault
 refusal_name refusal.Reference = text.fault_name text_fault.BadReference
+refusal_name refusal.Aircraft = text.fault_name text_fault.BadEquipment
 refusal_name (refusal.DataSet fault) = base_fault_name fault
 refusal_name (refusal.Stations fault) = station_fault_name fault
 refusal_name (refusal.Desk fault) = desk_fault_name fault
@@ -57,6 +59,7 @@ refusal_name (refusal.Occupied name) = codes "Occupied"
 abbrev pub refusal_place : Refusal → Place
 refusal_place (refusal.Value fault) = Nowhere
 refusal_place refusal.Reference = Nowhere
+refusal_place refusal.Aircraft = Nowhere
 refusal_place (refusal.DataSet fault) = base_fault_place fault
 refusal_place (refusal.Stations fault) = station_fault_place fault
 refusal_place (refusal.Desk fault) = desk_fault_place fault

@@ -1,9 +1,13 @@
 //! The command `board`: the departures and arrivals at a station on a local date.
 
-ghost use Rattle.std.specs.Prelude.{◌≡◌, false, true, IfErr, IfOk};
+ghost use Rattle.std.specs.Prelude.{◌≡◌, ◌⊎◌, false, true, IfErr, IfOk};
 ghost use Rattle.ssim_values.specs.Station.{is_station};
+ghost use Rattle.ssim_values.specs.declared.fault.Fault.TheVariants as value_fault;
 ghost use Rattle.ssim_program.specs.Answers.{board};
 ghost use Rattle.ssim_program.specs.internal.Program.{Answers};
+ghost use Rattle.ssim_program.specs.print.Refusal.{IsMemory};
+ghost use Rattle.ssim_program.specs.declared.refusal.Refusal.TheVariants as refused;
+ghost use Rattle.ssim_words.specs.Typed.{typed};
 
 use crate::command::show::day_in;
 use crate::refusal::Refusal;
@@ -11,6 +15,7 @@ use crate::store::Store;
 use crate::timetable_file::{carrier_of, open_timetable};
 use ssim_board::{Board, board_lines};
 use ssim_values::{Fault, Station};
+use ssim_words::typed_station;
 use std::alloc::Global;
 
 /// The board of a station on a date, of the desk, or of the data set, in a file.
@@ -26,8 +31,8 @@ pub(crate) fn board<S: Store>(
     ensures counted { S.failures store.new ≡ S.failures store.old }
 {
     let desk = open_timetable(alloc, file, store)?;
-    let station = station_in(station)?;
-    let day = day_in(date)?;
+    let station = station_in(alloc, station)?;
+    let day = day_in(alloc, date)?;
     let carrier = carrier_of(&desk);
     let board = Board {
         station,
@@ -41,13 +46,15 @@ pub(crate) fn board<S: Store>(
 }
 
 /// The station that the word is.
-fn station_in(word: &str) -> Result<Station, Fault>
-    ensures ok { IfOk result (λ station. (station ≡ word.now) × (is_station word.now ≡ true)) }
-    ensures err { IfErr result
-        (λ fault. (fault ≡ Fault.BadStation) × (is_station word.now ≡ false)) }
+fn station_in(alloc: Global, word: &str) -> Result<Station, Refusal>
+    ensures ok { IfOk result
+        (λ station. (station ≡ typed word.now) × (is_station (typed word.now) ≡ true)) }
+    ensures err { IfErr result (λ refusal. IsMemory refusal
+        ⊎ ((refusal ≡ refused.Value value_fault.BadStation)
+        × (is_station (typed word.now) ≡ false))) }
 {
-    match word.as_bytes().as_array() {
-        Some(text) => Station::parse(text),
-        None => Err(Fault::BadStation),
+    match typed_station(alloc, word.as_bytes())? {
+        Some(station) => Ok(station),
+        None => Err(Refusal::from(Fault::BadStation)),
     }
 }

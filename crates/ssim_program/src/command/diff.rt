@@ -20,9 +20,9 @@ use std::alloc::Global;
 
 /// The carrier record of a data set, and the flights of a timetable over it.
 #[derive(Drop)]
-struct Timetable {
-    carrier: Carrier,
-    flights: Vec<FlightPieces>,
+pub(crate) struct Timetable {
+    pub carrier: Carrier,
+    pub flights: Vec<FlightPieces>,
 }
 
 /// The dates on which the timetables of two files differ. The records of the first are freed before
@@ -43,7 +43,11 @@ pub(crate) fn diff<S: Store>(
 }
 
 /// The flights of the timetable that the file of this name has.
-fn open_flights<S: Store>(alloc: Global, name: &str, store: &mut S) -> Result<Timetable, Refusal>
+pub(crate) fn open_flights<S: Store>(
+    alloc: Global,
+    name: &str,
+    store: &mut S,
+) -> Result<Timetable, Refusal>
     ensures read { IfOk result (λ timetable. (desk : DeskSeen)
         × ReadsTimetable (S.files store.old) name.now desk
         × HasFlights desk timetable.carrier timetable.flights.items) }

@@ -3,14 +3,16 @@
 ghost use Rattle.std.specs.Prelude.{◌≡◌, ◌⊎◌, [], ◌∷◌, All, Err, IfErr, IfOk, List, Ok, false, map, true};
 ghost use Rattle.ssim_values.specs.declared.designator.Designator.{Designator};
 ghost use Rattle.ssim_values.specs.declared.fault.Fault.TheVariants as value_fault;
-ghost use Rattle.ssim_program.specs.Messages.{IsOf, SpellEach, flights_in};
+ghost use Rattle.ssim_program.specs.Messages.{IsOf, flights_in};
+ghost use Rattle.ssim_words.specs.Flight.{NameEach};
 ghost use Rattle.ssim_program.specs.print.Refusal.{IsMemory};
 ghost use Rattle.ssim_program.specs.declared.refusal.Refusal.TheVariants as refused;
 
 use crate::refusal::Refusal;
 use ssim_base::ResolveFault;
 use ssim_desk::DeskFault;
-use ssim_values::{Airline, Designator};
+use ssim_values::{Airline, Designator, Fault};
+use ssim_words::typed_flights;
 use std::alloc::Global;
 
 /// The flight of the airline that the word names.
@@ -39,30 +41,34 @@ pub(crate) fn named_flights(
         flights_in airline (map (λ t. t.now) words.now) (Ok flights.items)) }
     ensures err { IfErr result (λ why. flights_in airline (map (λ t. t.now) words.now) (Err why)) }
 {
-    let flights = designators(alloc, words)?;
+    let flights = flights_of(alloc, airline, words)?;
     if has_other(airline, &flights) {
         return Err(Refusal::from(DeskFault::Resolve(ResolveFault::Airline(0))));
     }
     Ok(flights)
 }
 
-/// The designators that the words are.
-fn designators(alloc: Global, words: &[&str]) -> Result<Vec<Designator>, Refusal>
-    ensures ok { IfOk result (λ flights. SpellEach (map (λ t. t.now) words.now) flights.items) }
+/// The flights that the words name, also those of other airlines.
+pub(crate) fn flights_of(
+    alloc: Global,
+    airline: Airline,
+    words: &[&str],
+) -> Result<Vec<Designator>, Refusal>
+    ensures ok { IfOk result
+        (λ flights. NameEach airline (map (λ t. t.now) words.now) flights.items) }
     ensures err { IfErr result (λ refusal. IsMemory refusal
         ⊎ ((refusal ≡ refused.Value value_fault.BadDesignator)
-        × ((flights : List Designator) → SpellEach (map (λ t. t.now) words.now) flights → ⊥))) }
+        × ((flights : List Designator) → NameEach airline (map (λ t. t.now) words.now) flights
+        → ⊥))) }
 {
-    let mut flights = Vec::with_capacity(alloc, words.len())?;
-    for word in words {
-        let flight = Designator::parse(word.as_bytes())?;
-        flights.push(flight)?;
+    match typed_flights(alloc, airline, words)? {
+        Some(flights) => Ok(flights),
+        None => Err(Refusal::from(Fault::BadDesignator)),
     }
-    Ok(flights)
 }
 
 /// Whether one of the flights is another airline's.
-fn has_other(airline: Airline, flights: &[Designator]) -> bool
+pub(crate) fn has_other(airline: Airline, flights: &[Designator]) -> bool
     ensures other { result ≡ true → All (IsOf airline) flights.now → ⊥ }
     ensures none { result ≡ false → All (IsOf airline) flights.now }
 {

@@ -1,7 +1,7 @@
 //! An example of the refusals of each number.
 
-ghost use Rattle.std.specs.Prelude.{◌≡◌, IfOk, IfSome};
-ghost use Rattle.ssim_program.specs.print.Refusal.{refusal_number};
+ghost use Rattle.std.specs.Prelude.{◌≤◌, ◌<◌, IfOk, IsSome};
+ghost use Rattle.ssim_program.specs.internal.Explain.{IsExample};
 
 use crate::refusal::Refusal;
 use ssim_base::{BaseFault, BaseRefusal, ResolveFault, StationFault};
@@ -13,9 +13,9 @@ use ssim_text::{Fault as LineFault, Kind, Originator, Reference, TextFault};
 use ssim_values::{Day, Designator, Fault, Memory};
 use std::alloc::Global;
 
-/// A refusal of this number, if the program refuses with it.
+/// A refusal of this number, if a command may have one.
 pub(crate) fn example(alloc: Global, number: u8) -> Result<Option<Refusal>, Memory>
-    ensures { IfOk result (λ found. IfSome found (λ r. refusal_number r ≡ number)) }
+    ensures { IfOk result (λ found. IsExample number found) }
 {
     if number > 90 {
         return of_file(alloc, number);
@@ -34,7 +34,8 @@ pub(crate) fn example(alloc: Global, number: u8) -> Result<Option<Refusal>, Memo
 
 /// An example of 91 to 93.
 fn of_file(alloc: Global, number: u8) -> Result<Option<Refusal>, Memory>
-    ensures { IfOk result (λ found. IfSome found (λ r. refusal_number r ≡ number)) }
+    requires { 90 < number }
+    ensures { IfOk result (λ found. IsExample number found) }
 {
     match number {
         91 => {
@@ -55,7 +56,8 @@ fn of_file(alloc: Global, number: u8) -> Result<Option<Refusal>, Memory>
 
 /// An example of 1 to 12.
 fn of_record(number: u8) -> Option<Refusal>
-    ensures { IfSome result (λ r. refusal_number r ≡ number) }
+    requires { number < 20 }
+    ensures { IsExample number result }
 {
     let fault = match number {
         1 => return Some(Refusal::Value(Fault::BadDate)),
@@ -74,7 +76,9 @@ fn of_record(number: u8) -> Option<Refusal>
 
 /// An example of 20 to 29.
 fn of_text(number: u8) -> Option<Refusal>
-    ensures { IfSome result (λ r. refusal_number r ≡ number) }
+    requires from { 20 ≤ number }
+    requires to { number < 30 }
+    ensures { IsExample number result }
 {
     let (fault, line) = match number {
         20 => (LineFault::BadKind, 1),
@@ -94,7 +98,9 @@ fn of_text(number: u8) -> Option<Refusal>
 
 /// An example of 30 to 39.
 fn of_data_set(number: u8) -> Option<Refusal>
-    ensures { IfSome result (λ r. refusal_number r ≡ number) }
+    requires from { 30 ≤ number }
+    requires to { number < 40 }
+    ensures { IsExample number result }
 {
     let (record, refusal) = match number {
         30 => (1, BaseRefusal::NoHeader),
@@ -114,7 +120,9 @@ fn of_data_set(number: u8) -> Option<Refusal>
 
 /// An example of 40 to 90.
 fn of_desk(number: u8) -> Option<Refusal>
-    ensures { IfSome result (λ r. refusal_number r ≡ number) }
+    requires from { 40 ≤ number }
+    requires to { number ≤ 90 }
+    ensures { IsExample number result }
 {
     let fault = match number {
         40 => DeskFault::Resolve(ResolveFault::TimeMode),
@@ -137,30 +145,34 @@ fn of_desk(number: u8) -> Option<Refusal>
 }
 
 fn too_many_variations() -> Option<Refusal>
-    ensures { IfSome result (λ r. refusal_number r ≡ 50) }
+    ensures { IsExample 50 result }
 {
-    let Ok(Designator { airline, flight }) = Designator::parse(b"LX544") else {
-        return None;
-    };
+    let Designator { airline, flight } = designator()?;
     let fault = ExportFault::Variations(flight);
     Some(Refusal::Export { airline, fault })
 }
 
 fn too_many_records() -> Option<Refusal>
-    ensures { IfSome result (λ r. refusal_number r ≡ 51) }
+    ensures { IsExample 51 result }
 {
-    let Ok(Designator { airline, .. }) = Designator::parse(b"LX544") else {
-        return None;
-    };
+    let Designator { airline, .. } = designator()?;
     let fault = ExportFault::Records;
     Some(Refusal::Export { airline, fault })
 }
 
+/// The flight of the examples of 50 and 51.
+fn designator() -> Option<Designator>
+    ensures { IsSome result }
+{
+    Designator::parse(b"LX544").ok()
+}
+
 /// The reference of the examples of 60 and 64.
-fn reference() -> Option<Reference> {
-    let Ok(date) = Day::parse(b"15MAR27") else {
-        return None;
-    };
+fn reference() -> Option<Reference>
+    ensures { IsSome result }
+{
+    // 15MAR27.
+    let date = Day::from_number(9_935)?;
     Some(Reference {
         date,
         group: 2,

@@ -1,12 +1,15 @@
 //! What is printed on a file: the refusal of its first invalid place, or that it is valid.
 
-ghost use Rattle.std.specs.Prelude.{◌≡◌, ◌≤◌, ◌++◌, ℕ, List, codes, length, IfOk};
-ghost use Rattle.ssim_program.specs.Explained.{BeginsWith, ExplainsBytes};
+ghost use Rattle.std.specs.Prelude.{◌≡◌, ◌≤◌, ◌++◌, codes, length, IfOk};
+ghost use Rattle.ssim_base.specs.Export.{line};
+ghost use Rattle.ssim_program.specs.Explained.{BeginsWith, ExplainsBytes, TellsInvalid, kind_name};
+ghost use Rattle.ssim_program.specs.Foreign.{foreign_kind};
 ghost use Rattle.ssim_program.specs.internal.Explain.{Judges};
 ghost use Rattle.ssim_program.specs.Made.{file_limit};
 ghost use Rattle.ssim_program.specs.declared.explain.file_kind.FileKind.TheVariants as kind;
 
 use super::file_kind::{FileKind, kind_of};
+use super::foreign::{foreign_kind, on_foreign};
 use super::on_refusal;
 use crate::data_set::{LIMIT, sum_bytes};
 use crate::refusal::Refusal;
@@ -32,8 +35,18 @@ pub(crate) fn on_bytes(alloc: Global, bytes: &[u8]) -> Result<Vec<u8>, Memory>
     }
 }
 
-/// The line of the refusal of a file, the words on it, and the words on its place.
+/// What is printed on a file with this refusal.
 fn on_invalid(alloc: Global, bytes: &[u8], refusal: &Refusal) -> Result<Vec<u8>, Memory>
+    ensures { IfOk result (λ text. TellsInvalid (foreign_kind bytes.now) refusal.now text.items) }
+{
+    match foreign_kind(bytes) {
+        Some(kind) => on_foreign(alloc, kind),
+        None => on_refused(alloc, bytes, refusal),
+    }
+}
+
+/// The line of the refusal of a file, the words on it, and the words on its place.
+fn on_refused(alloc: Global, bytes: &[u8], refusal: &Refusal) -> Result<Vec<u8>, Memory>
     ensures { IfOk result (λ text. BeginsWith refusal.now text.items) }
 {
     let place = words_on_place(alloc, bytes, refusal)?;
@@ -42,7 +55,7 @@ fn on_invalid(alloc: Global, bytes: &[u8], refusal: &Refusal) -> Result<Vec<u8>,
 
 /// That a file is valid.
 fn on_valid(alloc: Global, kind: FileKind) -> Result<Vec<u8>, Memory>
-    ensures { IfOk result (λ text. (rest : List ℕ) × (text.items ≡ codes "valid " ++ rest)) }
+    ensures { IfOk result (λ text. text.items ≡ line (codes "valid " ++ kind_name kind)) }
 {
     let mut text = Vec::from_slice(alloc, b"valid ")?;
     text.extend_from_slice(name_of(kind).as_bytes())?;
@@ -50,7 +63,9 @@ fn on_valid(alloc: Global, kind: FileKind) -> Result<Vec<u8>, Memory>
 }
 
 /// The name of a kind of file, as the end of a line.
-fn name_of(kind: FileKind) -> &'static str {
+fn name_of(kind: FileKind) -> &'static str
+    ensures { result.now ≡ line (kind_name kind) }
+{
     match kind {
         FileKind::DataSet => "data set\n",
         FileKind::Desk => "desk file\n",

@@ -48,7 +48,7 @@ fn push_sub(lines: &mut Vec<u8>, found: &FindingLine) -> Result<(), Memory>
 }
 
 /// Adds how many dates got each reason, and ends the line.
-fn push_counts(lines: &mut Vec<u8>, finding: &Finding) -> Result<(), Memory>
+pub(crate) fn push_counts(lines: &mut Vec<u8>, finding: &Finding) -> Result<(), Memory>
     ensures { OnOk result (lines.new.items ≡ lines.old.items ++ line (counts_text finding.now)) }
 {
     let Finding {

@@ -48,6 +48,10 @@ pub enum PrintedLine {
     NotHeld {
         reference: Reference,
     },
+    /// The message of another desk would not mean the same, and is not carried.
+    Left {
+        reference: Reference,
+    },
     /// How many messages a desk holds.
     Held {
         messages: usize,
@@ -75,6 +79,7 @@ impl fmt::Display for PrintedLine {
             PrintedLine::Repeated { reference } => write!(f, "repeated {reference}"),
             PrintedLine::Withdrawn { reference } => write!(f, "withdrawn {reference}"),
             PrintedLine::NotHeld { reference } => write!(f, "not held {reference}"),
+            PrintedLine::Left { reference } => write!(f, "left {reference}"),
             PrintedLine::Held { messages } => write!(f, "held {messages}"),
         }
     }

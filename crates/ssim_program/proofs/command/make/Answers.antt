@@ -1,6 +1,7 @@
 -- Each request makes what its command does.
-use Rattle.std.proofs.Common.{◌≡◌, Bor, Err, List, ℕ, Ok, Option, Result, Vec, map, option_map, refl, subst, sym}
-use Rattle.ssim_command_line.specs.Line.{line_of}
+use Rattle.std.proofs.Common.{◌≡◌, Bor, Err, List, ℕ, Ok, Option, Result, Vec, map, option_map, refl}
+use Rattle.std.proofs.Common.{subst, sym}
+use Rattle.ssim_command_line.specs.Line.{choice_line, line_of}
 use Rattle.ssim_command_line.specs.declared.command_line.Request.{Request}
 use Rattle.ssim_program.specs.Acts.{prints}
 use Rattle.ssim_program.specs.Answer.{Answer}
@@ -13,73 +14,165 @@ use Rattle.ssim_program.specs.declared.made.Made.TheVariants as made
 use Rattle.ssim_program.specs.declared.refusal.Refusal.{Refusal}
 use Rattle.ssim_program.proofs.command.make.Goals as goal
 
-made_of : {H : Type 0} (file : H → List ℕ) (files : Option Files) (request other : Request) (r : Result (Made H) Refusal) → request ≡ other → MakesOr file files (answers (line_of other) files) r → MakesOr file files (answers (line_of request) files) r
-made_of file files request other r is makes = subst (λ (q : Request). MakesOr file files (answers (line_of q) files) r) (sym is) makes
+made_of : {H : Type 0} (file : H → List ℕ) (files : Option Files) (request other : Request)
+    (r : Result (Made H) Refusal) → request ≡ other
+    → MakesOr file files (answers (line_of other) files) r
+    → MakesOr file files (answers (line_of request) files) r
+made_of file files request other r is makes =
+    subst (λ (q : Request). MakesOr file files (answers (line_of q) files) r) (sym is) makes
 
-lines_of : {A H : Type 0} (file : H → List ℕ) (files : Option Files) (answer : Answer (List ℕ)) (v : Result (Vec ℕ A) Refusal) (r : Result (Made H) Refusal) → Answers answer v → AreLines v r → MakesOr file files (prints answer) r
-lines_of file files answer (Ok v) (Ok (made.Lines lines)) is same = (lines.items, subst (λ (bytes : List ℕ). answer (Ok bytes)) (sym same) is, refl)
+lines_of : {A H : Type 0} (file : H → List ℕ) (files : Option Files) (answer : Answer (List ℕ))
+    (v : Result (Vec ℕ A) Refusal) (r : Result (Made H) Refusal) → Answers answer v → AreLines v r
+    → MakesOr file files (prints answer) r
+lines_of file files answer (Ok v) (Ok (made.Lines lines)) is same =
+    (lines.items, subst (λ (bytes : List ℕ). answer (Ok bytes)) (sym same) is, refl)
 lines_of file files answer (Ok v) (Ok (made.Kept kept lines)) is same = absurd same
 lines_of file files answer (Ok v) (Ok (made.Printed lines refused kept)) is same = absurd same
 lines_of file files answer (Ok v) (Ok (made.DataSet set)) is same = absurd same
 lines_of file files answer (Ok v) (Ok (made.Desk desk)) is same = absurd same
+lines_of file files answer (Ok v) (Ok (made.Part desk choice)) is same = absurd same
 lines_of file files answer (Ok v) (Ok (made.Texts place desk names)) is same = absurd same
 lines_of file files answer (Ok v) (Err why) is same = absurd same
 lines_of file files answer (Err why) (Ok m) is same = absurd same
-lines_of file files answer (Err why) (Err refusal) is same = subst (λ (e : Refusal). answer (Err e)) (sym same) is
+lines_of file files answer (Err why) (Err refusal) is same =
+    subst (λ (e : Refusal). answer (Err e)) (sym same) is
 
 pub returns-in-Start-clause-answer : goal.returns-in-Start-clause-answer
 returns-in-Start-clause-answer g c = made_of _ _ _ _ _ c.in-Start.is c.start.ensures.answer
 
 pub returns-in-Take-clause-answer : goal.returns-in-Take-clause-answer
-returns-in-Take-clause-answer g c = let old = g.S.Store.files c.args.store.now in made_of _ _ _ _ _ c.in-Take.is (subst (λ (words : List (Bor (List ℕ))). MakesOr g.S.Hold.Hold.file old (answer.take old c.in-Take.desk.now c.in-Take.out.now (map (λ t. t.now) words)) c.take.result) c.deref.ensures.value c.take.ensures.answer)
+returns-in-Take-clause-answer g c = let old = g.S.Store.files c.args.store.now in
+    made_of _ _ _ _ _ c.in-Take.is
+    (subst (λ (words : List (Bor (List ℕ))). MakesOr g.S.Hold.Hold.file old
+    (answer.take old c.in-Take.desk.now c.in-Take.out.now (map (λ t. t.now) words))
+    c.take.result) c.deref.ensures.value c.take.ensures.answer)
 
 pub returns-in-Receive-clause-answer : goal.returns-in-Receive-clause-answer
-returns-in-Receive-clause-answer g c = let old = g.S.Store.files c.args.store.now in made_of _ _ _ _ _ c.in-Receive.is (subst (λ (words : List (Bor (List ℕ))). MakesOr g.S.Hold.Hold.file old (answer.receive old (option_map (λ t. t.now) c.in-Receive.refused) c.in-Receive.desk.now c.in-Receive.out.now (map (λ t. t.now) words)) c.receive.result) c.deref-in-Receive.ensures.value c.receive.ensures.answer)
+returns-in-Receive-clause-answer g c = let old = g.S.Store.files c.args.store.now in
+    made_of _ _ _ _ _ c.in-Receive.is
+    (subst (λ (words : List (Bor (List ℕ))). MakesOr g.S.Hold.Hold.file old
+    (answer.receive old (option_map (λ t. t.now) c.in-Receive.refused) c.in-Receive.desk.now
+    c.in-Receive.out.now (map (λ t. t.now) words)) c.receive.result)
+    c.deref-in-Receive.ensures.value c.receive.ensures.answer)
 
 pub returns-in-Merge-clause-answer : goal.returns-in-Merge-clause-answer
 returns-in-Merge-clause-answer g c = made_of _ _ _ _ _ c.in-Merge.is c.merge.ensures.answer
 
+pub returns-in-Carry-clause-answer : goal.returns-in-Carry-clause-answer
+returns-in-Carry-clause-answer g c = made_of _ _ _ _ _ c.in-Carry.is c.carry.ensures.answer
+
 pub returns-in-Withdraw-clause-answer : goal.returns-in-Withdraw-clause-answer
-returns-in-Withdraw-clause-answer g c = let old = g.S.Store.files c.args.store.now in made_of _ _ _ _ _ c.in-Withdraw.is (subst (λ (words : List (Bor (List ℕ))). MakesOr g.S.Hold.Hold.file old (answer.withdraw old c.in-Withdraw.desk.now c.in-Withdraw.out.now (map (λ t. t.now) words)) c.withdraw.result) c.deref-in-Withdraw.ensures.value c.withdraw.ensures.answer)
+returns-in-Withdraw-clause-answer g c = let old = g.S.Store.files c.args.store.now in
+    made_of _ _ _ _ _ c.in-Withdraw.is
+    (subst (λ (words : List (Bor (List ℕ))). MakesOr g.S.Hold.Hold.file old
+    (answer.withdraw old c.in-Withdraw.desk.now c.in-Withdraw.out.now (map (λ t. t.now) words))
+    c.withdraw.result) c.deref-in-Withdraw.ensures.value c.withdraw.ensures.answer)
 
 pub returns-in-Publish-clause-answer : goal.returns-in-Publish-clause-answer
 returns-in-Publish-clause-answer g c = made_of _ _ _ _ _ c.in-Publish.is c.publish.ensures.answer
 
 pub returns-in-Check-clause-answer : goal.returns-in-Check-clause-answer
-returns-in-Check-clause-answer g c = let old = g.S.Store.files c.args.store.now in made_of _ _ _ _ _ c.in-Check.is (lines_of g.S.Hold.Hold.file old (answer.check old c.in-Check.dataset.now) c.check.result c.lines.result c.check.ensures.answer c.lines.ensures)
+returns-in-Check-clause-answer g c = let old = g.S.Store.files c.args.store.now in
+    made_of _ _ _ _ _ c.in-Check.is
+    (lines_of g.S.Hold.Hold.file old (answer.check old c.in-Check.dataset.now) c.check.result
+    c.lines.result c.check.ensures.answer c.lines.ensures)
 
 pub returns-in-Problems-clause-answer : goal.returns-in-Problems-clause-answer
-returns-in-Problems-clause-answer g c = let old = g.S.Store.files c.args.store.now in made_of _ _ _ _ _ c.in-Problems.is (lines_of g.S.Hold.Hold.file old (answer.problems old c.in-Problems.dataset.now) c.problems.result c.lines-in-Problems.result c.problems.ensures.answer c.lines-in-Problems.ensures)
+returns-in-Problems-clause-answer g c = let old = g.S.Store.files c.args.store.now in
+    made_of _ _ _ _ _ c.in-Problems.is
+    (lines_of g.S.Hold.Hold.file old (answer.problems old c.in-Problems.dataset.now)
+    c.problems.result c.lines-in-Problems.result c.problems.ensures.answer
+    c.lines-in-Problems.ensures)
 
 pub returns-in-Texts-clause-answer : goal.returns-in-Texts-clause-answer
-returns-in-Texts-clause-answer g c = let old = g.S.Store.files c.args.store.now in made_of _ _ _ _ _ c.in-Texts.is (lines_of g.S.Hold.Hold.file old (answer.texts old c.in-Texts.desk.now (map (λ t. t.now) c.in-Texts.flights.items)) c.texts.result c.lines-in-Texts.result (subst (λ (words : List (Bor (List ℕ))). Answers (answer.texts old c.in-Texts.desk.now (map (λ t. t.now) words)) c.texts.result) c.deref-in-Texts.ensures.value c.texts.ensures.answer) c.lines-in-Texts.ensures)
+returns-in-Texts-clause-answer g c = let old = g.S.Store.files c.args.store.now in
+    made_of _ _ _ _ _ c.in-Texts.is
+    (lines_of g.S.Hold.Hold.file old
+    (answer.texts old c.in-Texts.desk.now (map (λ t. t.now) c.in-Texts.flights.items))
+    c.texts.result c.lines-in-Texts.result
+    (subst (λ (words : List (Bor (List ℕ))). Answers
+    (answer.texts old c.in-Texts.desk.now (map (λ t. t.now) words)) c.texts.result)
+    c.deref-in-Texts.ensures.value c.texts.ensures.answer)
+    c.lines-in-Texts.ensures)
 
 pub returns-in-Show-clause-answer : goal.returns-in-Show-clause-answer
-returns-in-Show-clause-answer g c = let old = g.S.Store.files c.args.store.now in made_of _ _ _ _ _ c.in-Show.is (lines_of g.S.Hold.Hold.file old (answer.show old c.in-Show.desk.now c.in-Show.flight.now c.in-Show.date.now) c.show_flight.result c.lines-in-Show.result c.show_flight.ensures.answer c.lines-in-Show.ensures)
+returns-in-Show-clause-answer g c = let old = g.S.Store.files c.args.store.now in
+    made_of _ _ _ _ _ c.in-Show.is
+    (lines_of g.S.Hold.Hold.file old
+    (answer.show old c.in-Show.file.now c.in-Show.flight.now c.in-Show.date.now)
+    c.show_flight.result c.lines-in-Show.result c.show_flight.ensures.answer
+    c.lines-in-Show.ensures)
 
 pub returns-in-History-clause-answer : goal.returns-in-History-clause-answer
-returns-in-History-clause-answer g c = let old = g.S.Store.files c.args.store.now in made_of _ _ _ _ _ c.in-History.is (lines_of g.S.Hold.Hold.file old (answer.history old c.in-History.desk.now c.in-History.flight.now c.in-History.date.now) c.history.result c.lines-in-History.result c.history.ensures.answer c.lines-in-History.ensures)
+returns-in-History-clause-answer g c = let old = g.S.Store.files c.args.store.now in
+    made_of _ _ _ _ _ c.in-History.is
+    (lines_of g.S.Hold.Hold.file old
+    (answer.history old c.in-History.file.now c.in-History.flight.now c.in-History.date.now)
+    c.history.result c.lines-in-History.result c.history.ensures.answer
+    c.lines-in-History.ensures)
 
 pub returns-in-Board-clause-answer : goal.returns-in-Board-clause-answer
-returns-in-Board-clause-answer g c = let old = g.S.Store.files c.args.store.now in made_of _ _ _ _ _ c.in-Board.is (lines_of g.S.Hold.Hold.file old (answer.board old c.in-Board.file.now c.in-Board.station.now c.in-Board.date.now) c.board.result c.lines-in-Board.result c.board.ensures.answer c.lines-in-Board.ensures)
+returns-in-Board-clause-answer g c = let old = g.S.Store.files c.args.store.now in
+    made_of _ _ _ _ _ c.in-Board.is
+    (lines_of g.S.Hold.Hold.file old
+    (answer.board old c.in-Board.file.now c.in-Board.station.now c.in-Board.date.now)
+    c.board.result c.lines-in-Board.result c.board.ensures.answer c.lines-in-Board.ensures)
 
 pub returns-in-List-clause-answer : goal.returns-in-List-clause-answer
-returns-in-List-clause-answer g c = let old = g.S.Store.files c.args.store.now in made_of _ _ _ _ _ c.in-List.is (lines_of g.S.Hold.Hold.file old (answer.list old c.in-List.form c.in-List.file.now (map (λ t. t.now) c.in-List.flights.items)) c.list.result c.lines-in-List.result (subst (λ (words : List (Bor (List ℕ))). Answers (answer.list old c.in-List.form c.in-List.file.now (map (λ t. t.now) words)) c.list.result) c.deref-in-List.ensures.value c.list.ensures.answer) c.lines-in-List.ensures)
+returns-in-List-clause-answer g c = let old = g.S.Store.files c.args.store.now in
+    made_of _ _ _ _ _ c.in-List.is
+    (lines_of g.S.Hold.Hold.file old
+    (answer.list old c.in-List.form c.in-List.file.now
+    (map (λ t. t.now) c.in-List.flights.items)) c.list.result c.lines-in-List.result
+    (subst (λ (words : List (Bor (List ℕ))). Answers
+    (answer.list old c.in-List.form c.in-List.file.now (map (λ t. t.now) words))
+    c.list.result) c.deref-in-List.ensures.value c.list.ensures.answer)
+    c.lines-in-List.ensures)
 
 pub returns-in-Calendar-clause-answer : goal.returns-in-Calendar-clause-answer
-returns-in-Calendar-clause-answer g c = let old = g.S.Store.files c.args.store.now in made_of _ _ _ _ _ c.in-Calendar.is (lines_of g.S.Hold.Hold.file old (answer.calendar old c.in-Calendar.file.now c.in-Calendar.flight.now) c.calendar.result c.lines-in-Calendar.result c.calendar.ensures.answer c.lines-in-Calendar.ensures)
+returns-in-Calendar-clause-answer g c = let old = g.S.Store.files c.args.store.now in
+    made_of _ _ _ _ _ c.in-Calendar.is
+    (lines_of g.S.Hold.Hold.file old
+    (answer.calendar old c.in-Calendar.file.now c.in-Calendar.flight.now) c.calendar.result
+    c.lines-in-Calendar.result c.calendar.ensures.answer c.lines-in-Calendar.ensures)
 
 pub returns-in-Page-clause-answer : goal.returns-in-Page-clause-answer
-returns-in-Page-clause-answer g c = let old = g.S.Store.files c.args.store.now in made_of _ _ _ _ _ c.in-Page.is (lines_of g.S.Hold.Hold.file old (answer.page old c.in-Page.file.now) c.page.result c.lines-in-Page.result c.page.ensures.answer c.lines-in-Page.ensures)
+returns-in-Page-clause-answer g c = let old = g.S.Store.files c.args.store.now in
+    made_of _ _ _ _ _ c.in-Page.is
+    (lines_of g.S.Hold.Hold.file old
+    (answer.page old (option_map (λ f. f.now) c.in-Page.from) c.in-Page.file.now) c.page.result
+    c.lines-in-Page.result c.page.ensures.answer c.lines-in-Page.ensures)
 
 pub returns-in-Diff-clause-answer : goal.returns-in-Diff-clause-answer
-returns-in-Diff-clause-answer g c = let old = g.S.Store.files c.args.store.now in made_of _ _ _ _ _ c.in-Diff.is (lines_of g.S.Hold.Hold.file old (answer.diff old c.in-Diff.from.now c.in-Diff.to.now) c.diff.result c.lines-in-Diff.result c.diff.ensures.answer c.lines-in-Diff.ensures)
+returns-in-Diff-clause-answer g c = let old = g.S.Store.files c.args.store.now in
+    made_of _ _ _ _ _ c.in-Diff.is
+    (lines_of g.S.Hold.Hold.file old (answer.diff old c.in-Diff.from.now c.in-Diff.to.now)
+    c.diff.result c.lines-in-Diff.result c.diff.ensures.answer c.lines-in-Diff.ensures)
 
 pub returns-in-Findings-clause-answer : goal.returns-in-Findings-clause-answer
-returns-in-Findings-clause-answer g c = let old = g.S.Store.files c.args.store.now in made_of _ _ _ _ _ c.in-Findings.is (lines_of g.S.Hold.Hold.file old (answer.findings old c.in-Findings.desk.now) c.findings.result c.lines-in-Findings.result c.findings.ensures.answer c.lines-in-Findings.ensures)
+returns-in-Findings-clause-answer g c = let old = g.S.Store.files c.args.store.now in
+    made_of _ _ _ _ _ c.in-Findings.is
+    (lines_of g.S.Hold.Hold.file old (answer.findings old c.in-Findings.desk.now) c.findings.result
+    c.lines-in-Findings.result c.findings.ensures.answer c.lines-in-Findings.ensures)
+
+pub returns-in-Select-clause-answer : goal.returns-in-Select-clause-answer
+returns-in-Select-clause-answer g c =
+    let old = g.S.Store.files c.args.store.now in
+    made_of _ _ _ _ _ c.in-Select.is (subst (λ (words : List (Bor (List ℕ))).
+    MakesOr g.S.Hold.Hold.file old (answer.select old (choice_line c.in-Select.choice)
+    c.in-Select.file.now (map (λ t. t.now) words)) c.select.result)
+    c.deref-in-Select.ensures.value c.select.ensures.answer)
 
 pub returns-in-Rehearse-clause-answer : goal.returns-in-Rehearse-clause-answer
-returns-in-Rehearse-clause-answer g c = let old = g.S.Store.files c.args.store.now in made_of _ _ _ _ _ c.in-Rehearse.is (lines_of g.S.Hold.Hold.file old (answer.rehearse old c.in-Rehearse.dataset.now c.in-Rehearse.stations.now c.in-Rehearse.script.now) c.rehearse.result c.lines-in-Rehearse.result c.rehearse.ensures.answer c.lines-in-Rehearse.ensures)
+returns-in-Rehearse-clause-answer g c = let old = g.S.Store.files c.args.store.now in
+    made_of _ _ _ _ _ c.in-Rehearse.is
+    (lines_of g.S.Hold.Hold.file old
+    (answer.rehearse old c.in-Rehearse.dataset.now c.in-Rehearse.stations.now
+    c.in-Rehearse.script.now) c.rehearse.result c.lines-in-Rehearse.result
+    c.rehearse.ensures.answer c.lines-in-Rehearse.ensures)
 
 pub returns-in-Explain-clause-answer : goal.returns-in-Explain-clause-answer
-returns-in-Explain-clause-answer g c = let old = g.S.Store.files c.args.store.now in made_of _ _ _ _ _ c.in-Explain.is (lines_of g.S.Hold.Hold.file old (answer.explain old c.in-Explain.word.now) c.explain.result c.lines-in-Explain.result c.explain.ensures.answer c.lines-in-Explain.ensures)
+returns-in-Explain-clause-answer g c = let old = g.S.Store.files c.args.store.now in
+    made_of _ _ _ _ _ c.in-Explain.is
+    (lines_of g.S.Hold.Hold.file old (answer.explain old c.in-Explain.word.now) c.explain.result
+    c.lines-in-Explain.result c.explain.ensures.answer c.lines-in-Explain.ensures)

@@ -79,5 +79,10 @@ returns-in_ok-print_all-in-Printed-clause-does g c =
 pub returns-in-DataSet-clause-does : goal.returns-in-DataSet-clause-does
 returns-in-DataSet-clause-does g c = over _ _ _ _ _ _ _ c.in-DataSet.is (c.export_set.ensures.printed (g.S.Store.files c.args.store.now) (g.S.Store.failures c.args.store.now))
 
+pub returns-in-Part-clause-does : goal.returns-in-Part-clause-does
+returns-in-Part-clause-does g c =
+    over _ _ _ _ _ _ _ c.in-Part.is (c.export_part.ensures.printed
+    (g.S.Store.files c.args.store.now) (g.S.Store.failures c.args.store.now))
+
 pub returns-in-Desk-clause-does : goal.returns-in-Desk-clause-does
 returns-in-Desk-clause-does g c = over _ _ _ _ _ _ _ c.in-Desk.is (c.export_desk.ensures.printed (g.S.Store.files c.args.store.now) (g.S.Store.failures c.args.store.now))

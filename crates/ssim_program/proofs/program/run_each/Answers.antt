@@ -3,7 +3,7 @@ use Rattle.std.proofs.Common.{Bor, List, [], ℕ, ◌+◌, drop, get_or, map}
 use Rattle.ssim_command_line.specs.Line.{Text}
 use Rattle.ssim_program.specs.World.{world}
 use Rattle.ssim_program.proofs.Events.{all_called, one_called}
-use Rattle.ssim_program.proofs.NamedFlights.{next_word, no_word}
+use Rattle.ssim_words.proofs.NamedFlights.{next_word, no_word}
 use Rattle.ssim_program.proofs.program.run_each.Goals as goal
 
 abbrev words_of : Bor (List (Bor (List ℕ))) → List Text

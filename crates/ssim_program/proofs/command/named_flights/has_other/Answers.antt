@@ -3,7 +3,7 @@ use Rattle.std.proofs.Common.{◌≡◌, sym, subst}
 use Rattle.std.proofs.lemmas.List.{take_all}
 use Rattle.std.proofs.lemmas.List.Elements.{All-more, All-same}
 use Rattle.ssim_program.specs.Messages.{IsOf}
-use Rattle.ssim_program.proofs.NamedFlights.{equal_bytes, other_bytes}
+use Rattle.ssim_program.proofs.Airlines.{equal_bytes, other_bytes}
 use Rattle.ssim_program.proofs.command.named_flights.has_other.Goals as goal
 
 pub loop-flight-preserved : goal.loop-flight-preserved

@@ -10,7 +10,7 @@ use Rattle.ssim_program.specs.World.{Does, World, world}
 use Rattle.ssim_program.specs.declared.refusal.Refusal.{Refusal}
 use Rattle.ssim_program.specs.declared.refusal.Refusal.TheVariants as refused
 use Rattle.ssim_program.proofs.Acting.{acted_print, refuses, same_world}
-use Rattle.ssim_program.proofs.NamedFlights.{next_word, no_word}
+use Rattle.ssim_words.proofs.NamedFlights.{next_word, no_word}
 use Rattle.ssim_program.proofs.Taking.{kept, not_printed, not_taken, one_text}
 use Rattle.ssim_program.proofs.command.take.take_texts.Goals as goal
 

@@ -8,7 +8,7 @@ use Rattle.ssim_base.specs.Export.{line}
 use Rattle.ssim_program.specs.Withdrawing.{Withdraws}
 use Rattle.ssim_program.specs.print.PrintedLine.{printed_text}
 use Rattle.ssim_program.specs.declared.print.printed_line.PrintedLine.{PrintedLine}
-use Rattle.ssim_program.proofs.NamedFlights.{next_word, no_word}
+use Rattle.ssim_words.proofs.NamedFlights.{next_word, no_word}
 use Rattle.ssim_program.proofs.Withdrawing.{all_withdrawn, one_more}
 use Rattle.ssim_program.proofs.command.withdraw.withdraw_each.Goals as goal
 

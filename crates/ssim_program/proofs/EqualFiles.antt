@@ -1,0 +1,664 @@
+-- Equal files are read as one value, and what a command makes of it has one outcome. So what it prints
+-- is the same, or its refusal is.
+use Rattle.std.proofs.Common.{◌≡◌, ◌∙◌, ◌⊎◌, inl, inr, ℕ, true, List, [], ◌∷◌, ◌++◌, Option, Some}
+use Rattle.std.proofs.Common.{None, Ok, Err, length, refl, sym, ap, ap₂, subst}
+use Rattle.std.specs.Prelude.{All}
+use Rattle.std.specs.List.{flat_map}
+use Rattle.ssim_values.specs.Flight.{FlightNumber}
+use Rattle.ssim_values.specs.Station.{is_station}
+use Rattle.ssim_values.specs.declared.designator.Designator.{Designator}
+use Rattle.ssim_values.specs.declared.fault.Fault.TheVariants as value_fault
+use Rattle.ssim_values.specs.declared.time_mode.TimeMode.{TimeMode}
+use Rattle.ssim_records.specs.Carrier.{CarrierFields}
+use Rattle.ssim_records.specs.Frames.{FramesAreOne}
+use Rattle.ssim_records.specs.declared.record.Record.{Record}
+use Rattle.ssim_records.specs.declared.record.Record.TheVariants.{Header, Carrier}
+use Rattle.ssim_words.proofs.OneFlight.{name_once, names_one}
+use Rattle.ssim_words.specs.Date.{typed_day}
+use Rattle.ssim_words.specs.Flight.{NameEach, NamesFlight}
+use Rattle.ssim_words.specs.Typed.{typed}
+use Rattle.ssim_text.specs.Reference.{OneReference}
+use Rattle.ssim_base.specs.Base.{airline_of}
+use Rattle.ssim_base.specs.BaseSeen.{AreFlights, BaseSeen}
+use Rattle.ssim_base.specs.Export.{ExportRefusal, Frame, chapter7, line}
+use Rattle.ssim_base.specs.Export as refusal
+use Rattle.ssim_base.specs.Problems.{SameBytesSameProblems}
+use Rattle.ssim_base.specs.Reading.{SameBytesSameBase}
+use Rattle.ssim_base.specs.Timetable.{Days, days_of, itinerary}
+use Rattle.ssim_base.specs.declared.fault.BaseFault.{BaseFault}
+use Rattle.ssim_base.specs.declared.note.Note.{Note}
+use Rattle.ssim_base.specs.declared.problems.Problems.{Problems}
+use Rattle.ssim_schedule.specs.declared.export.ExportFault.{ExportFault}
+use Rattle.ssim_schedule.specs.declared.export.ExportFault.TheVariants as export
+use Rattle.ssim_held.specs.Entries.{DeskSeen, Entry, map_of}
+use Rattle.ssim_held.specs.File.{NoTwoDesks}
+use Rattle.ssim_desk.specs.DateSteps.{steps_on}
+use Rattle.ssim_desk.specs.Desk.{days_of_desk, entry_lines}
+use Rattle.ssim_desk.specs.Meaning.{found_by, left_by}
+use Rattle.ssim_board.specs.InOrder.{board_of}
+use Rattle.ssim_board.specs.Lines.{board_lines}
+use Rattle.ssim_board.specs.declared.board.Board.{Board as StationBoard}
+use Rattle.ssim_difference.specs.Lines.{difference_lines}
+use Rattle.ssim_outbox.specs.Comparable.{RefusesCarriers}
+use Rattle.ssim_outbox.specs.declared.fault.OutboxFault.{OutboxFault}
+use Rattle.ssim_command_line.specs.Line.{Text, Texts, Withdraw, Show, History, Board, Calendar, Diff}
+use Rattle.ssim_command_line.specs.Line.{Check, Findings, Export, Listing, Page}
+use Rattle.ssim_command_line.specs.Line.{Problems as ProblemsOf, Tidy}
+use Rattle.ssim_command_line.specs.declared.command_line.ListForm.{ListForm}
+use Rattle.ssim_program.specs.Acts.{Act, Print, printed_by, prints}
+use Rattle.ssim_program.specs.Answer.{Answer, Finds, Gives, OneOr, OrElse, Require, ◌>>=◌}
+use Rattle.ssim_program.specs.Answers.{chosen, compared, desk_page}
+use Rattle.ssim_program.specs.Desks.{desk_in, flight_date, other_airline}
+use Rattle.ssim_program.specs.EqualFiles.{AreAlike, AreOneRefusal, DoesTheSame, DoesTheSameOfPairs}
+use Rattle.ssim_program.specs.EqualFiles.{PrintTheSame, PrintsTheSame}
+use Rattle.ssim_program.specs.Exports.{HasNoExport, RefusesExport, export_in}
+use Rattle.ssim_program.specs.Files.{Files}
+use Rattle.ssim_program.specs.Made.{AreLinesOn, IsExport, data_set_in, problem_line, problem_lines}
+use Rattle.ssim_program.specs.Made.{problems_in, summary_lines}
+use Rattle.ssim_program.specs.Messages.{IsOf, flights_in, message_texts, messages_on}
+use Rattle.ssim_program.specs.Offices.{IsSameFile}
+use Rattle.ssim_program.specs.Timetables.{HasCarrier, carrier_of, shown_in, timetable_in}
+use Rattle.ssim_program.specs.Withdrawing.{Withdraws}
+use Rattle.ssim_program.specs.print.Calendar.{calendar_lines}
+use Rattle.ssim_program.specs.print.Listing.{printed_list}
+use Rattle.ssim_program.specs.print.PrintedLine.{printed_text}
+use Rattle.ssim_program.specs.print.Refusal.{IsMemory, refusal_number}
+use Rattle.ssim_program.specs.print.Shown.{findings_lines, history_lines, shown_flight}
+use Rattle.ssim_program.specs.declared.print.printed_line.PrintedLine.TheVariants as printed_line
+use Rattle.ssim_program.specs.declared.refusal.Refusal.{Refusal}
+use Rattle.ssim_program.specs.declared.refusal.Refusal.TheVariants as refused
+use Rattle.ssim_program.proofs.Again.{one_export, one_frame}
+use Rattle.ssim_program.proofs.Alike.{Equal, Nothing, finds_alike, gives_alike, one_or_alike}
+use Rattle.ssim_program.proofs.Alike.{or_else_alike, prints_alike, require_alike, then_alike}
+use Rattle.ssim_program.proofs.OneCount.{one_count}
+use Rattle.ssim_program.proofs.Origins.{same_some}
+use Rattle.ssim_program.proofs.SameReading.{SameDesk, data_set_alike, desk_alike, problems_alike}
+use Rattle.ssim_program.proofs.SameReading.{shown_alike, timetable_alike}
+use Rattle.ssim_program.proofs.Withdrawing.{printed_once}
+
+-- ---- words
+
+-- flights of one airline, from the flights that words name on
+abbrev of_airline : List ℕ → List Designator → Answer (List Designator)
+of_airline airline flights = do
+  here ← Require (All (IsOf airline) flights) other_airline
+  Gives flights
+
+abbrev named_flights : List ℕ → List Text → Unit {0} → Answer (List Designator)
+named_flights airline words room =
+    OneOr (NameEach airline words) (refused.Value value_fault.BadDesignator) >>= of_airline airline
+
+of_airline_alike : (airline : List ℕ) (flights others : List Designator) → flights ≡ others
+    → AreAlike Equal (of_airline airline flights) (of_airline airline others)
+of_airline_alike airline flights others same =
+    subst (λ (ds : List Designator). AreAlike Equal (of_airline airline flights)
+    (of_airline airline ds)) same
+    (then_alike Nothing Equal (Require (All (IsOf airline) flights) other_airline)
+    (Require (All (IsOf airline) flights) other_airline) (λ here. Gives flights)
+    (λ here. Gives flights)
+    (require_alike (All (IsOf airline) flights) other_airline)
+    (λ x y both. gives_alike flights flights refl))
+
+flights_alike : (airline other : List ℕ) (words : List Text) → airline ≡ other
+    → AreAlike Equal (flights_in airline words) (flights_in other words)
+flights_alike airline other words same =
+    subst (λ (a : List ℕ). AreAlike Equal (flights_in airline words) (flights_in a words)) same
+    (then_alike Equal Equal (Gives (tt {0})) (Gives (tt {0})) (named_flights airline words)
+    (named_flights airline words) (gives_alike (tt {0}) (tt {0}) refl)
+    (λ x y both. then_alike Equal Equal
+    (OneOr (NameEach airline words) (refused.Value value_fault.BadDesignator))
+    (OneOr (NameEach airline words) (refused.Value value_fault.BadDesignator))
+    (of_airline airline) (of_airline airline)
+    (one_or_alike (NameEach airline words) (refused.Value value_fault.BadDesignator)
+    (name_once airline words)) (of_airline_alike airline)))
+
+-- a flight of one airline and a date, from the flight on
+abbrev on_day : List ℕ → Designator → ℕ → Answer (Designator × ℕ)
+on_day airline flight day = do
+  here ← Require (flight.airline ≡ airline) other_airline
+  Gives (flight, day)
+
+abbrev on_date : List ℕ → Text → Designator → Answer (Designator × ℕ)
+on_date airline date flight =
+    OrElse (typed_day date) (refused.Value value_fault.BadDate) >>= on_day airline flight
+
+on_day_alike : (airline : List ℕ) (flight : Designator) (day other : ℕ) → day ≡ other
+    → AreAlike Equal (on_day airline flight day) (on_day airline flight other)
+on_day_alike airline flight day other same =
+    then_alike Nothing Equal (Require (flight.airline ≡ airline) other_airline)
+    (Require (flight.airline ≡ airline) other_airline) (λ here. Gives (flight, day))
+    (λ here. Gives (flight, other))
+    (require_alike (flight.airline ≡ airline) other_airline)
+    (λ x y both. gives_alike (flight, day) (flight, other) (ap (λ (n : ℕ). (flight, n)) same))
+
+on_date_alike : (airline : List ℕ) (date : Text) (flight other : Designator) → flight ≡ other
+    → AreAlike Equal (on_date airline date flight) (on_date airline date other)
+on_date_alike airline date flight other same =
+    subst (λ (d : Designator). AreAlike Equal (on_date airline date flight) (on_date airline date d))
+    same
+    (then_alike Equal Equal (OrElse (typed_day date) (refused.Value value_fault.BadDate))
+    (OrElse (typed_day date) (refused.Value value_fault.BadDate)) (on_day airline flight)
+    (on_day airline flight)
+    (or_else_alike (typed_day date) (refused.Value value_fault.BadDate)) (on_day_alike airline flight))
+
+abbrev named_on : List ℕ → Text → Text → Unit {0} → Answer (Designator × ℕ)
+named_on airline flight date room =
+    OneOr (NamesFlight airline flight) (refused.Value value_fault.BadDesignator) >>= on_date airline
+    date
+
+date_alike : (airline other : List ℕ) (flight date : Text) → airline ≡ other
+    → AreAlike Equal (flight_date airline flight date) (flight_date other flight date)
+date_alike airline other flight date same =
+    subst (λ (a : List ℕ). AreAlike Equal (flight_date airline flight date)
+    (flight_date a flight date)) same
+    (then_alike Equal Equal (Gives (tt {0})) (Gives (tt {0})) (named_on airline flight date)
+    (named_on airline flight date) (gives_alike (tt {0}) (tt {0}) refl)
+    (λ x y both. then_alike Equal Equal
+    (OneOr (NamesFlight airline flight) (refused.Value value_fault.BadDesignator))
+    (OneOr (NamesFlight airline flight) (refused.Value value_fault.BadDesignator))
+    (on_date airline date) (on_date airline date)
+    (one_or_alike (NamesFlight airline flight) (refused.Value value_fault.BadDesignator)
+    (names_one airline flight)) (on_date_alike airline date)))
+
+-- ---- carrier records
+
+abbrev carrier_in : CarrierFields → List Record → CarrierFields
+carrier_in other (Header header ∷ Carrier carrier ∷ later) = carrier
+carrier_in other _ = other
+
+carrier_alike : (base other : List Record) → base ≡ other
+    → AreAlike Equal (carrier_of base) (carrier_of other)
+carrier_alike base other same =
+    finds_alike (HasCarrier base) (HasCarrier other)
+    (λ carrier that (header, later, is) (head, rest, are). ap (carrier_in carrier) (sym is ∙ same
+    ∙ are))
+
+-- carrier records have one refusal
+one_carriers : (mine theirs : CarrierFields) (fault other : OutboxFault)
+    → RefusesCarriers mine theirs fault → RefusesCarriers mine theirs other → fault ≡ other
+one_carriers mine theirs fault other (inl p) (inl q) = p.0 ∙ sym q.0
+one_carriers mine theirs fault other (inl p) (inr q) = absurd (p.1 q.1)
+one_carriers mine theirs fault other (inr p) (inl q) = absurd (q.1 p.1)
+one_carriers mine theirs fault other (inr p) (inr q) = p.0 ∙ sym q.0
+
+not_alike : (mine theirs : CarrierFields) (fault : OutboxFault) → theirs.airline ≡ mine.airline
+    → theirs.time_mode ≡ mine.time_mode → RefusesCarriers mine theirs fault → ⊥
+not_alike mine theirs fault airline mode (inl p) = p.1 airline
+not_alike mine theirs fault airline mode (inr p) = p.2 mode
+
+compared_alike : (mine theirs : CarrierFields)
+    → AreAlike Nothing (compared mine theirs) (compared mine theirs)
+compared_alike mine theirs = record {
+  values = λ x y p q. tt;
+  refusals =
+      λ why that (fault, p, is) (other, q, are). inr
+      (inr (inl (is ∙ ap refused.Publication (one_carriers mine theirs fault other p q)
+      ∙ sym are)));
+  first = λ x that p (fault, q, are). absurd (not_alike mine theirs fault p.0 p.1 q);
+  second = λ why y (fault, p, is) q. absurd (not_alike mine theirs fault q.0 q.1 p);
+}
+
+-- ---- exports
+
+export_refusal : (base : List Record) (days : FlightNumber → Days) (fault : ExportFault)
+    (bytes : List ℕ) → HasNoExport base days fault → IsExport base days bytes → fault ≡ export.Memory
+export_refusal base days (export.Variations flight) bytes none is =
+    let frame = one_frame is.0 none.0 base is.1 none.1 in
+    let both : Ok bytes ≡ Err (refusal.Variations flight) =
+    sym is.2 ∙ ap (λ (f : Frame). chapter7 f days) frame ∙ none.2 in absurd cc
+export_refusal base days export.Records bytes none is =
+    let frame = one_frame is.0 none.0 base is.1 none.1 in
+    let both : Ok bytes ≡ Err refusal.Records = sym is.2 ∙ ap (λ (f : Frame). chapter7 f days) frame
+    ∙ none.2 in absurd cc
+export_refusal base days export.WriteFault bytes none is = absurd none
+export_refusal base days export.Memory bytes none is = refl
+
+-- the export of some days is refused for one reason, but for memory
+one_refusal : (base : List Record) (days : FlightNumber → Days) (fault other : ExportFault)
+    → HasNoExport base days fault → HasNoExport base days other → (fault ≡ export.Memory)
+    ⊎ (other ≡ export.Memory) ⊎ (fault ≡ other)
+one_refusal base days export.WriteFault other p q = absurd p
+one_refusal base days export.Memory other p q = inl refl
+one_refusal base days (export.Variations flight) export.WriteFault p q = absurd q
+one_refusal base days (export.Variations flight) export.Memory p q = inr (inl refl)
+one_refusal base days (export.Variations flight) (export.Variations other) p q =
+    let frame = one_frame p.0 q.0 base p.1 q.1 in
+    let both : Err (refusal.Variations flight) ≡ Err (refusal.Variations other) =
+    sym p.2 ∙ ap (λ (f : Frame). chapter7 f days) frame ∙ q.2 in
+    let same : flight ≡ other = cc in inr (inr (ap export.Variations same))
+one_refusal base days (export.Variations flight) export.Records p q =
+    let frame = one_frame p.0 q.0 base p.1 q.1 in
+    let both : Err (refusal.Variations flight) ≡ Err refusal.Records =
+    sym p.2 ∙ ap (λ (f : Frame). chapter7 f days) frame ∙ q.2 in absurd cc
+one_refusal base days export.Records export.WriteFault p q = absurd q
+one_refusal base days export.Records export.Memory p q = inr (inl refl)
+one_refusal base days export.Records (export.Variations other) p q =
+    let frame = one_frame p.0 q.0 base p.1 q.1 in
+    let both : Err refusal.Records ≡ Err (refusal.Variations other) =
+    sym p.2 ∙ ap (λ (f : Frame). chapter7 f days) frame ∙ q.2 in absurd cc
+one_refusal base days export.Records export.Records p q = inr (inr refl)
+
+of_memory : (base : List Record) (fault : ExportFault) (why : Refusal)
+    → why ≡ refused.Export (airline_of base) fault → fault ≡ export.Memory → IsMemory why
+of_memory base fault why is memory =
+    ap refusal_number (is ∙ ap (refused.Export (airline_of base)) memory)
+
+export_in_alike : (base : List Record) (days : FlightNumber → Days)
+    → AreAlike Equal (export_in base days) (export_in base days)
+export_in_alike base days = record {
+  values = one_export base days;
+  refusals =
+      λ why that (fault, p, is) (other, q, are). by why that fault other is are
+      (one_refusal base days fault other p q);
+  first = λ bytes that is (fault, q, are). of_memory base fault that are
+      (export_refusal base days fault bytes q is);
+  second = λ why bytes (fault, p, is) are. of_memory base fault why is
+      (export_refusal base days fault bytes p are);
+}
+  where
+    by : (why that : Refusal) (fault other : ExportFault)
+        → why ≡ refused.Export (airline_of base) fault → that ≡ refused.Export (airline_of base) other
+        → (fault ≡ export.Memory) ⊎ (other ≡ export.Memory) ⊎ (fault ≡ other) → AreOneRefusal why that
+    by why that fault other is are (inl memory) = inl (of_memory base fault why is memory)
+    by why that fault other is are (inr (inl memory)) =
+        inr (inl (of_memory base other that are memory))
+    by why that fault other is are (inr (inr same)) =
+        inr (inr (inl (is ∙ ap (refused.Export (airline_of base)) same ∙ sym are)))
+
+pub exports_alike : (base other : List Record) (days those : FlightNumber → Days) → base ≡ other
+    → days ≡ those
+    → AreAlike PrintTheSame (prints (export_in base days)) (prints (export_in other those))
+exports_alike base other days those same same_days =
+    prints_alike (export_in base days) (export_in other those)
+    (subst (λ (ds : FlightNumber → Days). AreAlike Equal (export_in base days) (export_in other ds))
+    same_days
+    (subst (λ (b : List Record). AreAlike Equal (export_in base days) (export_in b days)) same
+    (export_in_alike base days)))
+
+-- ---- desk files
+
+-- a desk, whatever its latest change applied
+abbrev pub seen : BaseSeen → List Entry → DeskSeen
+seen base held = record { base = base; held = held; applied = 0 }
+
+abbrev texts_of : List Text → DeskSeen → Answer (List ℕ)
+texts_of words desk = do
+  flights ← flights_in (airline_of desk.base.records) words
+  Gives (message_texts (messages_on flights desk.held))
+
+-- the lines that are made of a flight on a date
+abbrev dated : (DeskSeen → Designator × ℕ → List ℕ) → Text → Text → DeskSeen → Answer (List ℕ)
+dated lines flight date desk = do
+  named ← flight_date (airline_of desk.base.records) flight date
+  Gives (lines desk named)
+
+abbrev shown_lines : DeskSeen → Designator × ℕ → List ℕ
+shown_lines desk named =
+    shown_flight named.0 named.1 (left_by desk.base desk.held named.0.flight named.1)
+
+abbrev lines_of_history : DeskSeen → Designator × ℕ → List ℕ
+lines_of_history desk named =
+    history_lines named.0 named.1 (itinerary desk.base.records named.0.flight named.1)
+    (steps_on desk named.0.flight named.1)
+
+abbrev findings_of : DeskSeen → Answer (List ℕ)
+findings_of desk = Gives (findings_lines (entry_lines desk.held (found_by desk.base desk.held)))
+
+abbrev export_of : DeskSeen → Answer (List Act)
+export_of desk = prints (export_in desk.base.records (days_of_desk desk))
+
+pub airlines_same : (desk other : DeskSeen) → SameDesk desk other
+    → airline_of desk.base.records ≡ airline_of other.base.records
+airlines_same desk other one = ap (λ (b : BaseSeen). airline_of b.records) one.0
+
+module _ (no_two : NoTwoDesks) where
+  pub texts_alike : (words : List Text) → DoesTheSame (λ file. Texts file words)
+  texts_alike words files others name another same =
+      let mine = desk_in (Some files) name in
+      let theirs = desk_in (Some others) another in
+      prints_alike (mine >>= texts_of words) (theirs >>= texts_of words)
+      (then_alike SameDesk Equal mine theirs (texts_of words) (texts_of words)
+      (desk_alike files others name another same no_two)
+      (λ desk other one. then_alike Equal Equal (flights_in (airline_of desk.base.records) words)
+      (flights_in (airline_of other.base.records) words)
+      (λ flights. Gives (message_texts (messages_on flights desk.held)))
+      (λ flights. Gives (message_texts (messages_on flights other.held)))
+      (flights_alike (airline_of desk.base.records) (airline_of other.base.records) words
+      (airlines_same desk other one))
+      (λ flights those both. gives_alike (message_texts (messages_on flights desk.held))
+      (message_texts (messages_on those other.held))
+      (λ i. message_texts (messages_on (both i) (one.1 i))))))
+
+  pub findings_alike : DoesTheSame Findings
+  findings_alike files others name another same =
+      let mine = desk_in (Some files) name in
+      let theirs = desk_in (Some others) another in
+      let lines : BaseSeen → List Entry → List ℕ =
+      λ base held. findings_lines (entry_lines held (found_by base held)) in
+      prints_alike (mine >>= findings_of) (theirs >>= findings_of)
+      (then_alike SameDesk Equal mine theirs findings_of findings_of
+      (desk_alike files others name another same no_two)
+      (λ desk other one. gives_alike (lines desk.base desk.held) (lines other.base other.held)
+      (λ i. lines (one.0 i) (one.1 i))))
+
+  pub export_alike : DoesTheSame Export
+  export_alike files others name another same =
+      let days : DeskSeen → FlightNumber → Days = days_of_desk in
+      then_alike SameDesk PrintTheSame (desk_in (Some files) name) (desk_in (Some others) another)
+      export_of export_of (desk_alike files others name another same no_two)
+      (λ desk other one. exports_alike desk.base.records other.base.records (days desk) (days other)
+      (ap (λ (b : BaseSeen). b.records) one.0) (λ i. days (seen (one.0 i) (one.1 i))))
+
+  pub withdraw_same : OneReference → (out : Text) (references : List Text)
+      → PrintsTheSame (λ file. Withdraw file out references)
+  withdraw_same one_each out words files others name another acts again same
+      (_, may, (desk, read, (left, is, (rising, all))))
+      (_, may_too, (other, reads, (last, are, (rising_too, all_too)))) =
+      let one = (desk_alike files others name another same no_two).values desk other read reads in
+      let lines : left.1 ≡ last.1 =
+      printed_once one_each words (map_of other.held) (map_of left.0.held) (map_of last.0.held)
+      left.1 last.1
+      (subst (λ (es : List Entry). Withdraws words (map_of es) (map_of left.0.held) left.1) one.1
+      is.withdraws) are.withdraws in
+      ap printed_by all ∙ ap (λ (bs : List ℕ). bs ++ []) lines ∙ sym (ap printed_by all_too)
+
+-- ---- timetables
+
+abbrev board_at : TimeMode → List ℕ → ℕ → StationBoard
+board_at mode station day = record { station = station; day = day; mode = mode }
+
+abbrev lines_on : List ℕ → DeskSeen → ℕ → CarrierFields → List ℕ
+lines_on station desk day carrier =
+    board_lines carrier.airline day
+    (board_of (board_at carrier.time_mode station day) (days_of_desk desk))
+
+abbrev board_on : List ℕ → DeskSeen → ℕ → Answer (List ℕ)
+board_on station desk day = do
+  carrier ← carrier_of desk.base.records
+  Gives (lines_on station desk day carrier)
+
+abbrev board_dated : Text → Text → DeskSeen → Unit {0} → Answer (List ℕ)
+board_dated station date desk here =
+    OrElse (typed_day date) (refused.Value value_fault.BadDate) >>= board_on (typed station) desk
+
+abbrev board_of_desk : Text → Text → DeskSeen → Answer (List ℕ)
+board_of_desk station date desk =
+    Require (is_station (typed station) ≡ true) (refused.Value value_fault.BadStation) >>= board_dated
+    station date desk
+
+abbrev list_of : ListForm → List Text → DeskSeen → Answer (List ℕ)
+list_of form words desk = do
+  flights ← flights_in (airline_of desk.base.records) words
+  Gives (printed_list form (airline_of desk.base.records) (chosen desk flights))
+
+-- the calendar of one flight
+abbrev IsCalendar : DeskSeen → List Designator → List ℕ → Type 0
+IsCalendar desk flights lines = (flight : Designator) × (flights ≡ flight ∷ [])
+    × (lines ≡ calendar_lines flight (days_of_desk desk flight.flight))
+
+abbrev calendar_of : Text → DeskSeen → Answer (List ℕ)
+calendar_of word desk = do
+  flights ← flights_in (airline_of desk.base.records) (word ∷ [])
+  Finds (IsCalendar desk flights)
+
+abbrev page_of : DeskSeen → Answer (List ℕ)
+page_of desk = do
+  carrier ← carrier_of desk.base.records
+  Gives (desk_page carrier (days_of desk.base.records) desk)
+
+-- what is made of two desks and their carrier records
+abbrev Made : Type 0
+Made = DeskSeen → DeskSeen → CarrierFields → CarrierFields → List ℕ
+
+-- the same is made of equal ones
+abbrev IsOfDesks : Made → Type 0
+IsOfDesks made =
+    (old first new second : DeskSeen) → SameDesk old first → SameDesk new second
+    → (mine ours theirs others : CarrierFields) → mine ≡ ours → theirs ≡ others
+    → made old new mine theirs ≡ made first second ours others
+
+-- what is made of two timetables, from the comparison of the carrier records on
+abbrev made_between : Made → DeskSeen → DeskSeen → CarrierFields → CarrierFields → Unit {0}
+    → Answer (List ℕ)
+made_between made old new mine theirs same = Gives (made old new mine theirs)
+
+abbrev between : Made → DeskSeen → DeskSeen → CarrierFields → CarrierFields → Answer (List ℕ)
+between made old new mine theirs = compared mine theirs >>= made_between made old new mine theirs
+
+abbrev from_carrier : Made → DeskSeen → DeskSeen → CarrierFields → Answer (List ℕ)
+from_carrier made old new mine = carrier_of new.base.records >>= between made old new mine
+
+abbrev of_desks : Made → DeskSeen → DeskSeen → Answer (List ℕ)
+of_desks made old new = carrier_of old.base.records >>= from_carrier made old new
+
+abbrev to_new : Made → Files → Text → DeskSeen → Answer (List ℕ)
+to_new made files to old = timetable_in (Some files) to >>= of_desks made old
+
+abbrev differing_lines : Made
+differing_lines old new mine theirs =
+    difference_lines mine.airline (days_of_desk old) (days_of_desk new)
+
+abbrev changed : Made
+changed old new mine theirs = desk_page theirs (days_of_desk old) new
+
+pub records_same : (desk other : DeskSeen) → SameDesk desk other
+    → desk.base.records ≡ other.base.records
+records_same desk other one = ap (λ (b : BaseSeen). b.records) one.0
+
+calendar_same : (desk other : DeskSeen) (flights those : List Designator) → SameDesk desk other
+    → flights ≡ those → (lines more : List ℕ) → IsCalendar desk flights lines
+    → IsCalendar other those more → lines ≡ more
+calendar_same desk other flights those one both lines more (flight, first, is) (that, first_too, are) =
+    let designator : flight ≡ that = ap (first_of flight) (sym first ∙ both ∙ first_too) in
+    is ∙ (λ i. calendar_lines (designator i)
+    (days_of_desk (seen (one.0 i) (one.1 i)) (designator i).flight)) ∙ sym are
+  where
+    first_of : Designator → List Designator → Designator
+    first_of none [] = none
+    first_of none (d ∷ ds) = d
+
+module _ (frames : FramesAreOne) (one_base : SameBytesSameBase) (no_two : NoTwoDesks) where
+  -- what is made of the timetables of equal files is alike
+  of_timetables : (next : DeskSeen → Answer (List ℕ))
+      → ((desk other : DeskSeen) → SameDesk desk other → AreAlike Equal (next desk) (next other))
+      → (files others : Files) (name another : Text) → IsSameFile files name others another
+      → AreAlike PrintTheSame (prints (timetable_in (Some files) name >>= next))
+      (prints (timetable_in (Some others) another >>= next))
+  of_timetables next on files others name another same =
+      let mine = timetable_in (Some files) name in
+      let theirs = timetable_in (Some others) another in
+      prints_alike (mine >>= next) (theirs >>= next)
+      (then_alike SameDesk Equal mine theirs next next
+      (timetable_alike files others name another same frames one_base no_two) on)
+
+  -- what is made of a flight on a date of equal files is alike
+  of_shown : (lines : DeskSeen → Designator × ℕ → List ℕ)
+      → ((desk other : DeskSeen) (named that : Designator × ℕ) → SameDesk desk other → named ≡ that
+      → lines desk named ≡ lines other that)
+      → (flight date : Text) (files others : Files) (name another : Text)
+      → IsSameFile files name others another
+      → AreAlike PrintTheSame (prints (shown_in (Some files) name >>= dated lines flight date))
+      (prints (shown_in (Some others) another >>= dated lines flight date))
+  of_shown lines are flight date files others name another same =
+      let mine = shown_in (Some files) name in
+      let theirs = shown_in (Some others) another in
+      let next = dated lines flight date in
+      prints_alike (mine >>= next) (theirs >>= next)
+      (then_alike SameDesk Equal mine theirs next next
+      (shown_alike files others name another same frames one_base no_two)
+      (λ desk other one. then_alike Equal Equal
+      (flight_date (airline_of desk.base.records) flight date)
+      (flight_date (airline_of other.base.records) flight date) (λ named. Gives (lines desk named))
+      (λ named. Gives (lines other named))
+      (date_alike (airline_of desk.base.records) (airline_of other.base.records) flight date
+      (airlines_same desk other one))
+      (λ named that both. gives_alike (lines desk named) (lines other that)
+      (are desk other named that one both))))
+
+  pub show_alike : (flight date : Text) → DoesTheSame (λ file. Show file flight date)
+  show_alike = of_shown shown_lines (λ desk other named that one both.
+      λ i. shown_flight (both i).0 (both i).1
+      (left_by (one.0 i) (one.1 i) (both i).0.flight (both i).1))
+
+  pub history_alike : (flight date : Text) → DoesTheSame (λ file. History file flight date)
+  history_alike = of_shown lines_of_history (λ desk other named that one both.
+      λ i. lines_of_history (seen (one.0 i) (one.1 i)) (both i))
+
+  pub board_alike : (station date : Text) → DoesTheSame (λ file. Board file station date)
+  board_alike station date = of_timetables (board_of_desk station date)
+      (λ desk other one. then_alike Nothing Equal
+      (Require (is_station (typed station) ≡ true) (refused.Value value_fault.BadStation))
+      (Require (is_station (typed station) ≡ true) (refused.Value value_fault.BadStation))
+      (board_dated station date desk) (board_dated station date other)
+      (require_alike (is_station (typed station) ≡ true) (refused.Value value_fault.BadStation))
+      (λ x y both. then_alike Equal Equal (OrElse (typed_day date) (refused.Value value_fault.BadDate))
+      (OrElse (typed_day date) (refused.Value value_fault.BadDate)) (board_on (typed station) desk)
+      (board_on (typed station) other)
+      (or_else_alike (typed_day date) (refused.Value value_fault.BadDate))
+      (λ day that same_day. then_alike Equal Equal (carrier_of desk.base.records)
+      (carrier_of other.base.records)
+      (λ carrier. Gives (lines_on (typed station) desk day carrier))
+      (λ carrier. Gives (lines_on (typed station) other that carrier))
+      (carrier_alike desk.base.records other.base.records (records_same desk other one))
+      (λ carrier those same_carrier. gives_alike (lines_on (typed station) desk day carrier)
+      (lines_on (typed station) other that those)
+      (λ i. lines_on (typed station) (seen (one.0 i) (one.1 i)) (same_day i)
+      (same_carrier i))))))
+
+  pub list_alike : (form : ListForm) (flights : List Text)
+      → DoesTheSame (λ file. Listing form file flights)
+  list_alike form words = of_timetables (list_of form words)
+      (λ desk other one.
+      let lines : DeskSeen → List Designator → List ℕ =
+      λ d fs. printed_list form (airline_of d.base.records) (chosen d fs) in
+      then_alike Equal Equal (flights_in (airline_of desk.base.records) words)
+      (flights_in (airline_of other.base.records) words) (λ flights. Gives (lines desk flights))
+      (λ flights. Gives (lines other flights))
+      (flights_alike (airline_of desk.base.records) (airline_of other.base.records) words
+      (airlines_same desk other one))
+      (λ flights those both. gives_alike (lines desk flights) (lines other those)
+      (λ i. lines (seen (one.0 i) (one.1 i)) (both i))))
+
+  pub calendar_alike : (flight : Text) → DoesTheSame (λ file. Calendar file flight)
+  calendar_alike word = of_timetables (calendar_of word)
+      (λ desk other one. then_alike Equal Equal (flights_in (airline_of desk.base.records) (word ∷ []))
+      (flights_in (airline_of other.base.records) (word ∷ []))
+      (λ flights. Finds (IsCalendar desk flights))
+      (λ flights. Finds (IsCalendar other flights))
+      (flights_alike (airline_of desk.base.records) (airline_of other.base.records) (word ∷ [])
+      (airlines_same desk other one))
+      (λ flights those both. finds_alike (IsCalendar desk flights) (IsCalendar other those)
+      (calendar_same desk other flights those one both)))
+
+  pub page_alike : DoesTheSame (Page None)
+  page_alike = of_timetables page_of
+      (λ desk other one.
+      let lines : DeskSeen → CarrierFields → List ℕ =
+      λ d carrier. desk_page carrier (days_of d.base.records) d in
+      then_alike Equal Equal (carrier_of desk.base.records) (carrier_of other.base.records)
+      (λ carrier. Gives (lines desk carrier)) (λ carrier. Gives (lines other carrier))
+      (carrier_alike desk.base.records other.base.records (records_same desk other one))
+      (λ carrier those both. gives_alike (lines desk carrier) (lines other those)
+      (λ i. lines (seen (one.0 i) (one.1 i)) (both i))))
+
+  between_alike : (made : Made) → IsOfDesks made → (old first new second : DeskSeen)
+      → SameDesk old first → SameDesk new second → (mine ours theirs others : CarrierFields)
+      → mine ≡ ours → theirs ≡ others
+      → AreAlike Equal (between made old new mine theirs)
+      (between made first second ours others)
+  between_alike made is old first new second one two mine ours theirs others same same_too =
+      then_alike Nothing Equal (compared mine theirs) (compared ours others)
+      (made_between made old new mine theirs) (made_between made first second ours others)
+      (subst (λ (c : CarrierFields). AreAlike Nothing (compared mine theirs) (compared ours c))
+      same_too (subst
+      (λ (c : CarrierFields). AreAlike Nothing (compared mine theirs) (compared c theirs)) same
+      (compared_alike mine theirs)))
+      (λ x y both. gives_alike (made old new mine theirs) (made first second ours others)
+      (is old first new second one two mine ours theirs others same same_too))
+
+  desks_alike : (made : Made) → IsOfDesks made → (old first new second : DeskSeen) → SameDesk old first
+      → SameDesk new second → AreAlike Equal (of_desks made old new) (of_desks made first second)
+  desks_alike made is old first new second one two =
+      then_alike Equal Equal (carrier_of old.base.records) (carrier_of first.base.records)
+      (from_carrier made old new) (from_carrier made first second)
+      (carrier_alike old.base.records first.base.records (records_same old first one))
+      (λ mine ours same. then_alike Equal Equal (carrier_of new.base.records)
+      (carrier_of second.base.records) (between made old new mine) (between made first second ours)
+      (carrier_alike new.base.records second.base.records (records_same new second two))
+      (λ theirs others. between_alike made is old first new second one two mine ours theirs others
+      same))
+
+  pairs_alike : (made : Made) → IsOfDesks made → (files others : Files) (from to here there : Text)
+      → IsSameFile files from others here → IsSameFile files to others there
+      → AreAlike PrintTheSame (prints (timetable_in (Some files) from >>= to_new made files to))
+      (prints (timetable_in (Some others) here >>= to_new made others there))
+  pairs_alike made is files others from to here there same same_too =
+      let mine = timetable_in (Some files) from in
+      let theirs = timetable_in (Some others) here in
+      prints_alike (mine >>= to_new made files to) (theirs >>= to_new made others there)
+      (then_alike SameDesk Equal mine theirs (to_new made files to) (to_new made others there)
+      (timetable_alike files others from here same frames one_base no_two)
+      (λ old first one. then_alike SameDesk Equal (timetable_in (Some files) to)
+      (timetable_in (Some others) there) (of_desks made old) (of_desks made first)
+      (timetable_alike files others to there same_too frames one_base no_two)
+      (λ new second. desks_alike made is old first new second one)))
+
+  pub diff_alike : DoesTheSameOfPairs Diff
+  diff_alike =
+      pairs_alike differing_lines
+      (λ old first new second one two mine ours theirs others same same_too. λ i. differing_lines
+      (seen (one.0 i) (one.1 i)) (seen (two.0 i) (two.1 i)) (same i) (same_too i))
+
+  pub changed_page_alike : DoesTheSameOfPairs (λ from. Page (Some from))
+  changed_page_alike =
+      pairs_alike changed (λ old first new second one two mine ours theirs others same same_too. λ i.
+      changed (seen (one.0 i) (one.1 i)) (seen (two.0 i) (two.1 i)) (same i) (same_too i))
+
+-- ---- data sets
+
+module _ (frames : FramesAreOne) (one_base : SameBytesSameBase) where
+  pub tidy_alike : DoesTheSame Tidy
+  tidy_alike files others name another same =
+      then_alike (λ set that. (set.0 ≡ that.0) × (set.1 ≡ that.1)) PrintTheSame
+      (data_set_in (Some files) name) (data_set_in (Some others) another)
+      (λ set. prints (export_in set.0 (days_of set.0)))
+      (λ set. prints (export_in set.0 (days_of set.0)))
+      (data_set_alike files others name another same frames one_base)
+      (λ set that equal. exports_alike set.0 that.0 (days_of set.0) (days_of that.0) equal.0
+      (ap days_of equal.0))
+
+  check_lines : (records : List Record) (notes : List Note) (lines more : List ℕ)
+      → AreLinesOn records notes lines → AreLinesOn records notes more → lines ≡ more
+  check_lines records notes lines more (flights, counted, is) (those, counted_too, are) =
+      is ∙ ap (λ (fs : List FlightNumber). summary_lines (length records) (length fs) notes)
+      (one_count records flights those counted counted_too) ∙ sym are
+
+  pub check_alike : DoesTheSame Check
+  check_alike files others name another same =
+      let mine = data_set_in (Some files) name in
+      let theirs = data_set_in (Some others) another in
+      let next : List Record × List Note → Answer (List ℕ) = λ set. Finds (AreLinesOn set.0 set.1) in
+      prints_alike (mine >>= next) (theirs >>= next)
+      (then_alike (λ set that. (set.0 ≡ that.0) × (set.1 ≡ that.1)) Equal mine theirs next next
+      (data_set_alike files others name another same frames one_base)
+      (λ set that equal. finds_alike (AreLinesOn set.0 set.1) (AreLinesOn that.0 that.1)
+      (λ lines more is are. check_lines that.0 that.1 lines more
+      (subst (λ (ns : List Note). AreLinesOn that.0 ns lines) equal.1
+      (subst (λ (rs : List Record). AreLinesOn rs set.1 lines) equal.0 is)) are)))
+
+-- the lines of some problems of so many records
+abbrev lines_of : ℕ → List BaseFault → List ℕ
+lines_of records faults =
+    flat_map problem_line faults ++ line
+    (printed_text (printed_line.ProblemCount records (length faults)))
+
+pub problems_same : SameBytesSameProblems → DoesTheSame ProblemsOf
+problems_same one files others name another same =
+    let mine = problems_in (Some files) name in
+    let theirs = problems_in (Some others) another in
+    let next : Problems → Answer (List ℕ) = λ found. Gives (problem_lines found) in
+    prints_alike (mine >>= next) (theirs >>= next)
+    (then_alike (λ p q. (p.records ≡ q.records) × (p.faults.items ≡ q.faults.items)) Equal mine theirs
+    next next (problems_alike files others name another same one)
+    (λ p q equal. gives_alike (problem_lines p) (problem_lines q)
+    (ap₂ (λ (n : ℕ) (fs : List BaseFault). lines_of n fs) equal.0 equal.1)))

@@ -1,0 +1,16 @@
+-- The flights before are those of the data set.
+use Rattle.std.proofs.Common.{◌≡◌, ◌∙◌, ap}
+use Rattle.ssim_base.specs.BaseSeen.{BaseSeen}
+use Rattle.ssim_base.specs.Timetable.{days_of}
+use Rattle.ssim_base.proofs.Results.{if_ok}
+use Rattle.ssim_schedule.specs.FlightPieces.{divided_flights}
+use Rattle.ssim_schedule.specs.clauses.Schedule.{days_in}
+use Rattle.ssim_schedule.proofs.Divisions.{divided_flights_agree}
+use Rattle.ssim_program.proofs.command.page.own_page.Goals as goal
+
+pub returns : goal.returns
+returns c =
+    let before = days_of c.args.desk.base.records in
+    let is : c.in_ok-before.before.items ≡ divided_flights before = c.in_ok-before.ensures
+    ∙ divided_flights_agree (days_in c.in_ok-of.field-0) before (λ g is_flight. c.in_ok-of.ensures.days g is_flight ∙ ap (λ (b : BaseSeen). days_of b.records g) c.base.ensures) in
+    if_ok c.desk_page.result (λ page made. (c.carrier_of-carrier.result, c.carrier_of-carrier.ensures, made)) (c.desk_page.ensures before is)
