@@ -7,6 +7,7 @@
 - `legs`: long itineraries: 891,000 leg records, of 9,000 flights of leg sequences 1 to 99 over one period.
 - `sequence`: one flight with 238,000 legs of one day: seven leg sequences, each on 34,000 dates, the last date first.
 - `itineraries`: one flight on 4,500 dates, with other times on each.
+- `hubs`: 5,000 flights, most of them to or from one of three hubs, each with some 19 periods of other days and times.
 
 COUNT is another number of flights, or of the dates of one flight.
 """
@@ -14,7 +15,7 @@ import datetime
 import random
 import sys
 
-from chapter7 import DAY, carrier, clock, date, days, header, trailer, weekday_bit, write
+from chapter7 import DAY, carrier, clock, date, days, header, trailer, weekday_bit, with_column, write
 
 FIRST, LAST, CREATED = datetime.date(2025, 3, 30), datetime.date(2025, 10, 25), datetime.date(2025, 2, 1)
 SEASON, CENTURY = (FIRST, LAST), (datetime.date(2000, 1, 1), datetime.date(2099, 12, 31))
@@ -78,9 +79,31 @@ def itineraries(count=4_500, later=0):
         yield f"{line[:39]}{start}{start}{line[47:57]}{end}{end}{line[65:]}".encode("ascii")
 
 
+def hubs(flights=5_000):
+    """Flights to and from hubs, each with many periods."""
+    rng = random.Random(2)
+    stations = [f"{chr(65 + place // 26)}{chr(65 + place % 26)}Q" for place in range(60)]
+    for flight in range(flights):
+        hub = rng.choice(stations[:3] if rng.random() < 0.7 else stations)
+        ends = rng.sample([hub, rng.choice([name for name in stations if name != hub])], 2)
+        begin, flown = 5 * rng.randrange(66, 262), 5 * rng.randrange(12, 120)
+        edges = [0, *sorted(rng.sample(range(7, 203), 19)), 210]
+        for place, (first, end) in enumerate(zip(edges, edges[1:])):
+            mask = rng.randrange(1, 128)
+            operates = [FIRST + day * DAY for day in range(first, end) if mask & weekday_bit(FIRST + day * DAY)]
+            if not operates:
+                continue
+            start = begin + rng.choice([0, 0, 0, 10, -15, 40])
+            line = leg_line(flight, 1, date(operates[0]), date(operates[-1]), days(mask), rng.choice(["320", "320", "321", "738"]), place + 1)
+            times = [clock(start), clock(start + flown)]
+            for column, text in ((37, ends[0]), (40, times[0] * 2), (55, ends[1]), (58, times[1] * 2)):
+                line = with_column(line, column, text)
+            yield line
+
+
 # The leg records of each shape, and the season of its carrier.
 SHAPES = {"dates": (dates, SEASON), "weeks": (weeks, SEASON), "legs": (legs, SEASON), "sequence": (sequence, CENTURY),
-          "itineraries": (itineraries, CENTURY)}
+          "itineraries": (itineraries, CENTURY), "hubs": (hubs, SEASON)}
 
 
 def records(shape, *counts, change=iter):

@@ -1,141 +1,69 @@
 #!/usr/bin/env python3
-"""Makes the manual page and the completion from the program's help: pages.py PROGRAM [FOLDER]
+"""Tries help, the manual page and the completions that make/pages.py makes of a program's help: pages.py PROGRAM
 
-In the folder, ssimdesk.1 is a manual page, and ssimdesk.bash completes the words of a command line in bash. Both have each command
-that `--help` lists, with its values and options as `COMMAND --help` shows them. Without a folder they are made and tried: the manual
-page has a heading for each command, bash completes the name and the options of each, and `--help` names each command once in its lists
-of what they are for. The last line is 'N passed, M failed'.
+The manual page has a heading for each command. bash, and zsh and fish where they are installed, complete names of commands, options after
+options, names of files with blanks, and the flights and stations of a file, as they do for a person who types. Each line of help has at
+most 80 columns, and `--help` names each command once in its lists of what they are for. The last line is 'N passed, M failed'.
 """
 import os
 import re
+import shutil
 import subprocess
 import sys
+import tempfile
+import time
 
-MANUAL = "ssimdesk.1"
-COMPLETION = "ssimdesk.bash"
+TOP = os.path.dirname(os.path.dirname(os.path.abspath(__file__)))
+sys.path.insert(0, os.path.join(TOP, "make"))
 
-# Values that are not names of files.
-NO_FILES = {"FLIGHT", "DATE", "STATION", "REFERENCE"}
+from pages import BASH, FISH, MANUAL, Page, made, printed, section, write
 
-COMPLETED = """\
-# Completes the words of ssimdesk in bash: source this file.
-_ssimdesk() {
-    local word=${COMP_WORDS[COMP_CWORD]} options= files=yes
-    if [ "$COMP_CWORD" -eq 1 ]; then
-        COMPREPLY=($(compgen -W "NAMES help --help --version" -- "$word"))
-        return
-    fi
-    case "${COMP_WORDS[1]}" in
-CASES
-    help) COMPREPLY=($(compgen -W "NAMES" -- "$word")); return ;;
-    esac
-    case "$word" in
-    -*) COMPREPLY=($(compgen -W "$options" -- "$word")) ;;
-    *) [ -z "$files" ] || COMPREPLY=($(compgen -f -- "$word")) ;;
-    esac
+SEASON = os.path.join(TOP, "samples", "season.ssim")
+
+# The words before the cursor, and some of what the last one is completed to. After a | is what it is not completed to.
+COMPLETED = [
+    ("ssimdesk li", "list"),
+    ("ssimdesk help bo", "board"),
+    ("ssimdesk list --csv --d", "--dates"),
+    (r"ssimdesk check a\ s", r"a\ season.ssim"),
+    (r"ssimdesk receive --refused a\ s", r"a\ season.ssim"),
+    ("ssimdesk list a.ssim Z710", "Z7101 Z7102 | Z7111 FDH"),
+    ("ssimdesk list --dates a.ssim Z7101 Z734", "Z7341"),
+    ("ssimdesk select --sta", "--station"),
+    ("ssimdesk select --from 1jul27 --station HAM a.ssim Z710", "Z7101 Z7102 | Z7111 FDH"),
+    (r"ssimdesk calendar a\ season.ssim Z734", "Z7341"),
+    ("ssimdesk board a.ssim H", "HAM | FDH Z7101"),
+    ("ssimdesk board a.ssim HAM a", "| season.ssim"),
+]
+
+# The seconds after which a shell has not completed a line. A processor may have other work.
+PATIENCE = 60
+
+# The seconds after which a line that should be completed to nothing is looked at.
+ABSENT = 2
+
+# What a shell is told before the first line is typed: that the completion is there, and a prompt.
+SHELLS = {
+    "bash": ("bash --noprofile --norc -i", f"PS1='% '; source {BASH}"),
+    "zsh": ("zsh -f -i", "PS1='% '; fpath=($PWD $fpath); autoload -Uz compinit; compinit -u -D; setopt no_beep; LISTMAX=9999"),
+    "fish": ("fish --no-config -i", f"source {FISH}; function fish_prompt; echo '% '; end; set -g fish_greeting"),
 }
-complete -o filenames -F _ssimdesk ssimdesk
-"""
 
 
-def printed(program, *words):
-    """What the program prints on its standard output."""
-    return subprocess.run([program, *words], stdout=subprocess.PIPE, timeout=60, check=True).stdout.decode()
+def has_all(text, wanted):
+    """Whether a text has some words, and none of those after a |."""
+    there, _, absent = wanted.partition("|")
+    words = text.replace("\n", " ").split(" ")
+    joined = " ".join(words)
+    return all(word in joined for word in there.split()) and not any(word in words for word in absent.split())
 
 
-def section(text, title):
-    """The lines under a title, which are indented by two blanks."""
-    lines = text.split("\n")
-    if title not in lines:
-        return []
-    rest = lines[lines.index(title) + 1 :]
-    end = next((n for n, line in enumerate(rest) if not line.startswith("  ")), len(rest))
-    return [line[2:] for line in rest[:end]]
-
-
-def entries(lines):
-    """The name and the text of each entry of a list of help. A text may go on on more lines; an option without a letter is indented."""
-    found = []
-    for line in lines:
-        if line.startswith(" ") and not line.startswith("    --"):
-            found[-1][1].append(line.strip())
-        else:
-            name, _, text = line.strip().partition("  ")
-            found.append((name, [text.strip()] if text.strip() else []))
-    return [(name, " ".join(text)) for name, text in found]
-
-
-class Page:
-    """What help says of the program, or of one command."""
-
-    def __init__(self, text):
-        self.about = " ".join(text.split("\n\n", 1)[0].split("\n"))
-        self.usage = re.search(r"^Usage: \S+ ?(.*)$", text, re.MULTILINE).group(1)
-        self.arguments = entries(section(text, "Arguments:"))
-        self.options = entries(section(text, "Options:"))
-        self.commands = [name for name, _ in entries(section(text, "Commands:")) if name != "help"]
-        listed = text.split("\nOptions:\n", 1)[1]
-        self.after = listed.split("\n\n", 1)[1].rstrip("\n") if "\n\n" in listed else ""
-
-
-def escaped(text):
-    """A text as a manual page has it: no line is read as a request, and no hyphen as a dash."""
-    text = text.replace("\\", "\\e").replace("-", "\\-")
-    return "\n".join("\\&" + line if line.startswith((".", "'")) else line for line in text.split("\n"))
-
-
-def entry_lines(pairs):
-    """A manual page's list."""
-    return [line for name, text in pairs for line in (".TP", f".B {escaped(name)}", escaped(text))]
-
-
-def as_is(text):
-    """Lines of a manual page that are not filled."""
-    return [".nf", escaped(text), ".fi"]
-
-
-def synopsis(name, page):
-    """The line of a command in the synopsis."""
-    return [f".B ssimdesk {name}", escaped(page.usage.partition(" ")[2]), ".br"]
-
-
-def described(page):
-    """The lines of a command: what it does, its values and its own options, and the example."""
-    options = [pair for pair in page.options if not pair[0].startswith("-h")]
-    return [f".SS {escaped(page.usage)}", escaped(page.about) + ".", *entry_lines(page.arguments + options), ".PP",
-            *as_is(page.after)]
-
-
-def manual(version, whole, pages):
-    """The manual page."""
-    lines = [f'.TH SSIMDESK 1 "" "ssimdesk {version}" "User Commands"', ".SH NAME", f"ssimdesk \\- {escaped(whole.about)}",
-             ".SH SYNOPSIS", *[line for name, page in pages for line in synopsis(name, page)], ".SH DESCRIPTION",
-             *as_is(whole.after), ".SH OPTIONS", *entry_lines(whole.options), ".SH COMMANDS",
-             *[line for _, page in pages for line in described(page)]]
-    return "\n".join(lines) + "\n"
-
-
-def completed(page):
-    """What is completed after a command: its options, and files but for values that are none."""
-    options = " ".join(re.findall(r"--[a-z]+", " ".join(option for option, _ in page.options)))
-    values = [re.sub(r"[^A-Z]", "", value) for value, _ in page.arguments]
-    places = [place for place, value in enumerate(values, 2) if value in NO_FILES]
-    files = f'; [ "$COMP_CWORD" -lt {places[0]} ] || files=' if places and values[-1] in NO_FILES else ""
-    return f'options="{options}"{files}'
-
-
-def cases(pages):
-    """The cases of the commands. Those that are completed alike are one."""
-    found = {}
-    for name, page in pages:
-        found.setdefault(completed(page), []).append(name)
-    return [f"    {'|'.join(names)}) {text} ;;" for text, names in found.items()]
-
-
-def completion(pages):
-    """The completion for bash."""
-    names = " ".join(name for name, _ in pages)
-    return COMPLETED.replace("NAMES", names).replace("CASES", "\n".join(cases(pages)))
+def wide_lines(program, whole):
+    """The lines of help with more than 80 columns."""
+    for words in [["--help"], *[[name, "--help"] for name in whole.commands]]:
+        for line in printed(program, *words).split("\n"):
+            if len(line) > 80:
+                yield f"{' '.join(words)} has a line of {len(line)} columns: {line}"
 
 
 def grouped(whole):
@@ -144,52 +72,99 @@ def grouped(whole):
     return [name for line in lists for name in line.partition(":")[2].replace(",", " ").split()]
 
 
-def made(program, whole):
-    """The text of each file."""
-    pages = [(name, Page(printed(program, name, "--help"))) for name in whole.commands]
-    version = printed(program, "--version").split()[-1]
-    return {MANUAL: manual(version, whole, pages), COMPLETION: completion(pages)}
-
-
-def completes(source, *words):
-    """What bash completes the last of the words to."""
-    script = 'source /dev/stdin; COMP_WORDS=("$@"); COMP_CWORD=$(($# - 1)); _ssimdesk; printf "%s\\n" "${COMPREPLY[@]}"'
-    done = subprocess.run(["bash", "-c", script, "bash", "ssimdesk", *words], input=source, capture_output=True, text=True,
-                          timeout=60, check=True)
-    return done.stdout.split()
-
-
-def faults(whole, files):
-    """What is wrong with the files, or with the lists of help."""
+def faults(program, whole, files):
+    """What is wrong with help or with the manual page; None for what is right."""
     headings = re.findall(r"^\.SS (\S+)", files[MANUAL], re.MULTILINE)
-    if headings != whole.commands:
-        yield "the manual page has not a heading for each command"
-    if sorted(completes(files[COMPLETION], "")) != sorted([*whole.commands, "help", "--help", "--version"]):
-        yield "bash does not complete the names of the commands"
-    if set(completes(files[COMPLETION], "list", "--")) != {"--csv", "--dates", "--help"}:
-        yield "bash does not complete the options of a command"
-    if sorted(grouped(whole)) != sorted(whole.commands):
-        yield "the lists of help, by what the commands are for, do not name each command once"
+    yield None if headings == whole.commands else "the manual page has not a heading for each command"
+    alike = sorted(grouped(whole)) == sorted(whole.commands)
+    yield None if alike else "the lists of help, by what the commands are for, do not name each command once"
+    wide = list(wide_lines(program, whole))
+    yield "\n".join(wide) if wide else None
 
 
-def write(folder, files):
-    """Writes the files."""
-    for name, text in files.items():
-        with open(os.path.join(folder, name), "w", encoding="utf-8", newline="\n") as file:
-            file.write(text)
+class Terminal:
+    """A shell in a terminal of tmux, in a folder."""
+
+    def __init__(self, name, folder):
+        self.socket = os.path.join(folder, f"{name}.socket")
+        command, first = SHELLS[name]
+        path = f"PATH={folder}:{os.environ['PATH']}"
+        self.run("new-session", "-d", "-x", "120", "-y", "50", "-c", folder, f"env {path} HOME={folder} {command}")
+        self.until(lambda shown: shown.strip())
+        self.typed(first, "Enter")
+        self.until(lambda shown: shown.strip().split("\n")[-1].strip() == "%")
+
+    def run(self, *words):
+        """What tmux prints."""
+        return subprocess.run(["tmux", "-f", "/dev/null", "-S", self.socket, *words], capture_output=True, text=True,
+                              timeout=60, check=False).stdout
+
+    def shown(self):
+        """The screen, when it has stayed the same for a moment."""
+        before = None
+        while before != (before := self.run("capture-pane", "-p")):
+            time.sleep(0.3)
+        return before
+
+    def until(self, right):
+        """The screen when it is right, or after a time that is ample on a busy machine."""
+        end = time.monotonic() + PATIENCE
+        while not right(shown := self.shown()) and time.monotonic() < end:
+            pass
+        return shown
+
+    def typed(self, text, *keys):
+        """Types a text and keys."""
+        self.run("send-keys", "-l", text)
+        self.run("send-keys", *keys)
+
+    def completed(self, text, wanted):
+        """The screen when tab has been typed twice after a text, and what is wanted is there."""
+        self.run("send-keys", "C-u")
+        self.run("send-keys", "C-l")
+        self.until(lambda shown: shown.strip() == "%")
+        self.typed(text, "Tab", "Tab")
+        if wanted.startswith("|"):
+            time.sleep(ABSENT)
+        shown = self.until(lambda shown: has_all(shown, wanted))
+        self.run("send-keys", "Escape")
+        self.run("send-keys", "C-c")
+        return shown
+
+    def end(self):
+        """Ends the shell."""
+        self.run("kill-server")
+
+
+def tried(name, folder):
+    """What is wrong with the completion of a shell; None for what is right."""
+    terminal = Terminal(name, folder)
+    for words, wanted in COMPLETED:
+        shown = terminal.completed(words, wanted)
+        right = has_all(shown, wanted)
+        yield None if right else f"{name} completes '{words}' not to {wanted}, but shows:\n{shown.strip()}"
+    terminal.end()
 
 
 def main():
     program = os.path.abspath(sys.argv[1])
     whole = Page(printed(program, "--help"))
-    files = made(program, whole)
-    if len(sys.argv) > 2:
-        write(sys.argv[2], files)
-        return 0
-    found = list(faults(whole, files))
-    print(*found, sep="\n", end="\n" if found else "")
-    print(f"{4 - len(found)} passed, {len(found)} failed")
-    return 1 if found else 0
+    files = made(program)
+    found = list(faults(program, whole, files))
+    with tempfile.TemporaryDirectory() as folder:
+        write(folder, files)
+        os.symlink(program, os.path.join(folder, "ssimdesk"))
+        for name in ("a.ssim", "a season.ssim"):
+            shutil.copy(SEASON, os.path.join(folder, name))
+        for name in SHELLS:
+            if shutil.which(name) and shutil.which("tmux"):
+                found += tried(name, folder)
+            else:
+                print(f"{name} is not tried: it is not installed, or tmux is not")
+    wrong = [fault for fault in found if fault]
+    print(*wrong, sep="\n", end="\n" if wrong else "")
+    print(f"{len(found) - len(wrong)} passed, {len(wrong)} failed")
+    return 1 if wrong else 0
 
 
 if __name__ == "__main__":
