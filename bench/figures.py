@@ -25,10 +25,8 @@ COUNTED = {"dates": 110, "weeks": 1_600}
 # The rows of the README: what is measured, the script, its row and the command.
 SHORT = [
     ("`check`, one record a date, 180,003 records, seconds", "data_sets", "dates check"),
-    ("`tidy` of them", "data_sets", "dates tidy"),
     ("`tidy` of 180,003 records in weekly strips", "data_sets", "weeks tidy"),
     ("`take` of 1,000 texts, desk of 900,020 records", "desks", "take 1000"),
-    ("`export` of this desk", "desks", "export"),
 ]
 SHAPE_NAMES = {
     "dates": "one record a date, 180 of them a flight, 180,003 records",

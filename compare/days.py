@@ -2,12 +2,14 @@
 
 Each case has two files FROM and TO: a data set and the same with changed records, or one of its desks, two of its desks, the data set as
 `tidy` writes it, or another data set. Their timetables are read from what `tidy` and `export` write, date by date (flight_dates.py). `diff`
-of the two, and `list`, with and without its options, `board`, `calendar` and `page` of TO have to print what follows from these dates.
+of the two, and `list`, with and without its options, `board`, `calendar` and `page` of TO have to print what follows from these dates, and so
+does `page` of the two. On the page of a desk are its changes from its data set, and its messages as `texts` and `findings` print them.
 """
 import messages
 import small
 from chapter7 import carrier, date, with_column
-from flight_dates import Timetable, board, calendar, differing, listed, listed_dates, page_lines, rows
+from flight_dates import Timetable, board, calendar, changes, differing, listed, listed_dates, messages as message_articles
+from flight_dates import page_lines, rows, section_lines
 from room import Answer, said
 
 KINDS = ["changed", "changed", "desk", "desk", "desks", "tidied", "other", "other carrier"]
@@ -29,6 +31,7 @@ def make(rng, room, kind):
     """Writes the files FROM and TO, and returns the season of FROM."""
     records = small.data_set(rng)
     season, _ = room.write_base(rng, "FROM", records)
+    room.copy("FROM", "base")
     if kind == "changed":
         room.write("TO", small.file_bytes(rng, small.changed(rng, records)))
     elif kind == "tidied":
@@ -54,14 +57,27 @@ def of_lines(room, words, lines):
     return " ".join(words), room(*words), said(lines)
 
 
-def of_page(room, lines):
-    """What is compared of the page of TO: its title, and all of its timetable."""
-    answer = room("page", "TO")
+def of_page(room, files, lines):
+    """What is compared of a page: all but how it looks and what it does, which is its title and its sections."""
+    answer = room("page", *files)
     printed = answer.out.decode("latin-1")
     title = [line for line in printed.split("\n") if line.startswith("<header><h1>")]
     begin = printed.find('<section id="timetable">')
-    timetable = printed[begin:printed.find("</section>", begin)].split("\n")[:-1] if begin >= 0 else []
-    return "page TO", [answer.status, answer.err, *title, *timetable], [0, "", *lines]
+    sections = printed[begin : printed.find("<script>\n", begin)].split("\n")[:-1] if begin >= 0 else []
+    return " ".join(["page", *files]), [answer.status, answer.err, *title, *sections], [0, "", *lines]
+
+
+def pages(room, season, old, new):
+    """The pages of TO, and of FROM and TO."""
+    timetable, held = page_lines(new), []
+    if room.is_desk("TO"):
+        texts = room("texts", "TO").out.decode("latin-1").rstrip("\n").split("\n\n")
+        findings = room("findings", "TO").out.decode("latin-1").split("\n")[:-1]
+        held = section_lines("Messages", message_articles(texts if findings else [], findings, season))
+    base = room.exported("base") if room.is_desk("TO") else room.exported("TO")
+    if base is not None:
+        yield of_page(room, ["TO"], timetable + section_lines("Changes", changes(Timetable(base), new)) + held)
+    yield of_page(room, ["FROM", "TO"], timetable + section_lines("Changes", changes(old, new)) + held)
 
 
 def compared(rng, room, season):
@@ -72,7 +88,8 @@ def compared(rng, room, season):
     old, new = map(Timetable, exports)
     if (old.airline, old.mode) != (new.airline, new.mode):
         fault = "41 Airline" if old.airline != new.airline else "40 TimeMode"
-        yield "diff", room("diff", "FROM", "TO"), Answer(1, b"", f"refused {fault} sub 0\n")
+        for command in "diff", "page":
+            yield command, room(command, "FROM", "TO"), Answer(1, b"", f"refused {fault} sub 0\n")
         return
     yield of_lines(room, ["diff", "FROM", "TO"], differing(old, new))
     flights = sorted(set(old.flights) | set(new.flights) | {(1, " ")})
@@ -86,4 +103,4 @@ def compared(rng, room, season):
         yield of_lines(room, ["board", "TO", station, date(day)], board(new, station, day))
     for flight in rng.sample(flights, min(2, len(flights))):
         yield of_lines(room, ["calendar", "TO", new.designator(flight)], calendar(new, flight))
-    yield of_page(room, page_lines(new))
+    yield from pages(room, season, old, new)

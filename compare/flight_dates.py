@@ -5,10 +5,12 @@ It reads only what `tidy` and `export` write, where equal legs have equal column
 """
 import collections
 import datetime
+import re
 
-from chapter7 import DAY, FILL, date, dates_of, day_of
+from chapter7 import DAY, FILL, OPEN_END, date, dates_of, day_of
 
 WEEKDAYS = "1234567"
+FINDING = re.compile(r"((?:SSM|ASM) \S{7} \d{5} \d{3}(?: \S{7})?) \d+ (\S+) (\S+) (acted .*)")
 HEADER = ("flight,first,last,days,leg,from,passenger_departure,departure,departure_utc_variation,to,arrival,passenger_arrival,"
           "arrival_utc_variation,departure_date_variation,arrival_date_variation,service,aircraft,bookings,configuration,"
           "departure_terminal,arrival_terminal")
@@ -256,7 +258,64 @@ def page_lines(table):
     for flight, days in table.flights.items():
         name = table.designator(flight)
         lines += [f'<article id="{name}"><h3>{name}</h3><pre>', *flight_lines(days), "</pre></article>"]
-    return lines
+    return lines + ["</section>"]
+
+
+def section_lines(name, articles):
+    """The section of these articles, in lines; nothing if there is none."""
+    head = f'<section id="{name.lower()}"><h2>{name}</h2>'
+    return [head, *(line for article in articles for line in article), "</section>"] if articles else []
+
+
+def link(name):
+    return f'<a href="#{name}">{name}</a>'
+
+
+def changes(old, new):
+    """An article for each period of `diff`, with its lines."""
+    articles = []
+    for line in differing(old, new)[:-1]:
+        if line[:2] in ("- ", "+ ", "  "):
+            articles[-1].insert(-1, escaped(line))
+        else:
+            name, _, period = line.partition(" ")
+            articles.append([f"<article><h3>{link(name)} {period}</h3><pre>", "</pre></article>"])
+    return articles
+
+
+def messages(texts, findings, season):
+    """An article for each message: a line for each sub-message with the dates that it resolves to, and its text. `texts` and `findings`
+    are what these commands print."""
+    found = [FINDING.fullmatch(line).groups() for line in findings]
+    articles = []
+    for text in texts:
+        begins_at = 3 + text.startswith(".")
+        head, *subs = text.split("\n//\n")
+        subs = ["\n".join(head.split("\n")[begins_at:]), *(sub for sub in subs if not sub.startswith("SI"))]
+        rows = []
+        for sub in subs:
+            reference, action, name, results = found.pop(0)
+            rows.append(f"<li>{action} {link(name)} {resolved(season, sub.split(chr(10)))} {results}")
+        title = f'<article id="{reference.replace(" ", "-")}"><h3>{reference}</h3><ol>'
+        articles.append([title, *rows, "</ol><pre>", *map(escaped, text.split("\n")), "</pre></article>"])
+    return articles
+
+
+def resolved(season, lines):
+    """The period of a sub-message with its years, as `list` prints it. An ASM has its date twice, and all days of operation."""
+    words = lines[1].split("/")[1:] * 2 + [WEEKDAYS] if "/" in lines[1] else lines[2].split()
+    first = on_or_after(words[0], season.first)
+    last = season.last if words[1] == OPEN_END else on_or_after(words[1], first)
+    return f"{date(first)} {date(last)} " + "".join(digit if digit in words[2] else "." for digit in WEEKDAYS)
+
+
+def on_or_after(text, day):
+    """The date of a text; the first one on or after a day, if the text has no year."""
+    if len(text) == 7:
+        return day_of(text)
+    while date(day)[:5] != text:
+        day += DAY
+    return day
 
 
 def flight_lines(days):
