@@ -89,6 +89,7 @@ class Holds:
         self.refused("OUT of start is the table", "refused 93 Occupied stations.txt", "start", "season.ssim", "stations.txt", "stations.txt")
         self.refused("OUT of receive forgotten", "refused 93 Occupied texts/01-holiday.ssm", "receive", "fdh.desk", *texts)
         self.refused("OUT of merge is a note", "refused 93 Occupied note", "merge", "fdh.desk", "fdh.desk", "note")
+        self.refused("OUT of carry is a note", "refused 93 Occupied note", "carry", "fdh.desk", "fdh.desk", "note")
         self.refused("OUT of withdraw is a mailbox", "refused 93 Occupied mail.txt", "withdraw", "fdh.desk", "mail.txt", "SSM 15MAR27 00001 001")
         self.refused("nothing is read before", "refused 93 Occupied note", "take", "missing", "note", "missing")
         publish = ["publish", "season.ssim", "planned.ssim", "20MAR00001E001"]
@@ -114,7 +115,7 @@ class Holds:
         """A command of each kind on the desk, whose OUT is the desk."""
         return [["start", "season.ssim", "stations.txt", "fdh.desk"], ["take", "fdh.desk", "fdh.desk", "texts/01-holiday.ssm"],
                 ["receive", "fdh.desk", "fdh.desk", "mail.txt"], ["merge", "fdh.desk", "fdh.desk", "fdh.desk"],
-                ["withdraw", "fdh.desk", "fdh.desk", "SSM 15MAR27 00001 001"]]
+                ["carry", "fdh.desk", "fdh.desk", "fdh.desk"], ["withdraw", "fdh.desk", "fdh.desk", "SSM 15MAR27 00001 001"]]
 
     def busy(self):
         with open(self.path("fdh.desk"), "rb") as file:

@@ -191,8 +191,12 @@ desks_refused() {
 # The commands that only print.
 desks_printed() {
     input=held expect "a flight date is shown" 0 $'LX544 01JUL25\nno flight\n' "" show - LX544 01JUL25
-    expect "a flight has its legs" 0 $'LX544 02JUL25\n01 ZRH 0545 0545 +0200 LHR 0700 0700 +0100 00 J 320\n' "" \
-        show held LX0544 02JUL25
+    for date in 02JUL25 2jul25 '2 Jul 2025' 02jul2025 2025-07-02; do
+        expect "a flight has its legs" 0 $'LX544 02JUL25\n01 ZRH 0545 0545 +0200 LHR 0700 0700 +0100 00 J 320\n' "" \
+            show held LX0544 "$date"
+    done
+    expect "a flight of the file's airline" 0 $'LX544 01JUL25\nno flight\n' "" show held 544 01JUL25
+    expect "no date has two readings" 1 "" $'refused 1 BadDate\n' show held 544 02/07/2025
     expect "findings" 0 $'SSM 01JUN25 00001 001 1 CNL LX544 acted 1 absent 0 present 0 leg 0 station 0\n' "" findings held
     expect "a desk without texts is exported" 0 "@$tidied" "" export desk
     to=/dev/full expect "an export cannot be written" 1 "" $'refused 52 WriteFault\n' export held
@@ -281,6 +285,7 @@ expect "short help" 0 "~Usage: ssimdesk check <DATASET>" "" check -h
 expect "no words" 2 "" "~requires a subcommand"
 expect "a file is not named" 2 "" "~required arguments were not provided" tidy
 expect "a word too many" 2 "" "~unexpected argument 'b' found" tidy a b
+expect "an option twice" 2 "" "~the argument '--from <DATE>' cannot be used multiple times" select --from 1jul27 --from 2jul27 a
 expect "an unknown option" 2 "" "~unexpected argument '-x' found" tidy -x
 expect "an unknown command with words" 2 "" "~unrecognized subcommand 'fly'" fly a b c
 
