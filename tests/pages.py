@@ -45,7 +45,7 @@ ABSENT = 2
 # What a shell is told before the first line is typed: that the completion is there, and a prompt.
 SHELLS = {
     "bash": ("bash --noprofile --norc -i", f"PS1='% '; source {BASH}"),
-    "zsh": ("zsh -f -i", "PS1='% '; fpath=($PWD $fpath); autoload -Uz compinit; compinit -u -D; setopt no_beep; LISTMAX=9999"),
+    "zsh": ("zsh -f -i", "PS1='%% '; fpath=($PWD $fpath); autoload -Uz compinit; compinit -u -D; setopt no_beep; LISTMAX=9999"),
     "fish": ("fish --no-config -i", f"source {FISH}; function fish_prompt; echo '% '; end; set -g fish_greeting"),
 }
 
