@@ -12,7 +12,7 @@ ghost use Rattle.ssim_base.specs.Resolve.{IsRefusedIn, ResolvesIn};
 use crate::resolution::{ResolveFault, ResolvedText, resolve_by};
 use ssim_records::{Carrier, Header, Record, Trailer};
 use ssim_text::Message;
-use ssim_values::Airline;
+use ssim_values::{Airline, TimeMode};
 use std::alloc::Global;
 use std::marker::Model;
 
@@ -72,6 +72,19 @@ impl BaseFrame {
         BaseFrame {
             header: self.header,
             carrier: self.carrier,
+            trailer: self.trailer,
+            alloc: self.alloc,
+        }
+    }
+
+    /// The same frame, whose carrier record has another time mode.
+    pub fn with_time_mode(&self, time_mode: TimeMode) -> BaseFrame
+        ensures { result
+            ≡ record self.now { carrier = record self.now.carrier { time_mode = time_mode } } }
+    {
+        BaseFrame {
+            header: self.header,
+            carrier: self.carrier.with_time_mode(time_mode),
             trailer: self.trailer,
             alloc: self.alloc,
         }

@@ -72,7 +72,7 @@ impl PlacedLeg {
     }
 
     /// Its own columns become these.
-    pub(crate) fn set_columns(&mut self, columns: LegColumns)
+    pub fn set_columns(&mut self, columns: LegColumns)
         ensures { self.new ≡ record self.old { columns = columns } }
     {
         self.columns = columns;

@@ -138,6 +138,13 @@ impl Carrier {
         self.time_mode
     }
 
+    /// The same record with another time mode.
+    pub fn with_time_mode(self, time_mode: TimeMode) -> Carrier
+        ensures { result ≡ record self { time_mode = time_mode } }
+    {
+        Carrier { time_mode, ..self }
+    }
+
     /// The airline whose schedule it is.
     pub fn airline(&self) -> Airline
         ensures { result ≡ self.now.airline }
