@@ -116,17 +116,21 @@ module _ (p : LegValue → Bool) where
 -- ---- one leg more
 
 module _ (written : LegValue → List ℕ) where
-  like : (a b : LegValue) → same_leg a b ≡ false → written a ≡ written b → is_like_by written a b ≡ true
+  like : (a b : LegValue) → same_leg a b ≡ false → written a ≡ written b
+      → is_like_by written a b ≡ true
   like a b differ texts =
       ap₂ (λ (x y : Bool). not x && y) differ ((bytes_eq-Decides (written a) (written b)).1 texts)
 
   none_like : (legs : Legs) (leg : LegValue) (text : List ℕ) → find (has_text written text) legs ≡ None
       → written leg ≡ text → is_like_one_by written legs leg ≡ false
   none_like [] leg text e is = refl
-  none_like (l ∷ legs) leg text e is = by (has_text written text l) refl (λ none. none_like legs leg text none is) e
+  none_like (l ∷ legs) leg text e is =
+      by (has_text written text l) refl (λ none. none_like legs leg text none is) e
     where
-      by : (b : Bool) → has_text written text l ≡ b → (find (has_text written text) legs ≡ None → is_like_one_by written legs leg ≡ false)
-          → cond b (Some l) (find (has_text written text) legs) ≡ None → is_like_one_by written (l ∷ legs) leg ≡ false
+      by : (b : Bool) → has_text written text l ≡ b
+          → (find (has_text written text) legs ≡ None → is_like_one_by written legs leg ≡ false)
+          → cond b (Some l) (find (has_text written text) legs) ≡ None
+          → is_like_one_by written (l ∷ legs) leg ≡ false
       by true has later e = none_some l (sym e)
       by false has later e =
           ap (λ (t : Bool). t || is_like_one_by written legs leg)
@@ -139,14 +143,18 @@ module _ (written : LegValue → List ℕ) where
   with_mark legs = option_map (λ first. (first, is_like_one_by written legs first))
 
   like_one_more : (legs : Legs) (leg first : LegValue)
-      → is_like_one_by written (legs ++ leg ∷ []) first ≡ (is_like_one_by written legs first || is_like_by written leg first)
+      → is_like_one_by written (legs ++ leg ∷ []) first ≡
+      (is_like_one_by written legs first || is_like_by written leg first)
   like_one_more legs leg first =
       list_any-append (λ other. is_like_by written other first) legs (leg ∷ [])
-      ∙ ap (λ (t : Bool). is_like_one_by written legs first || t) (or_false (is_like_by written leg first))
+      ∙ ap (λ (t : Bool). is_like_one_by written legs first || t)
+      (or_false (is_like_by written leg first))
 
-  group_by : (legs : Legs) (leg : LegValue) (text : List ℕ) (o : Option LegValue) → find (has_text written text) legs ≡ o
+  group_by : (legs : Legs) (leg : LegValue) (text : List ℕ) (o : Option LegValue)
+      → find (has_text written text) legs ≡ o
       → (b : Bool) → has_text written text leg ≡ b
-      → with_mark (legs ++ leg ∷ []) (option_or o (cond b (Some leg) None)) ≡ cond b (Some (grown leg (with_mark legs o))) (with_mark legs o)
+      → with_mark (legs ++ leg ∷ []) (option_or o (cond b (Some leg) None)) ≡ cond b
+      (Some (grown leg (with_mark legs o))) (with_mark legs o)
   group_by legs leg text None is true has =
       ap (λ (t : Bool). Some (leg, t))
       (like_one_more legs leg leg
@@ -154,19 +162,22 @@ module _ (written : LegValue → List ℕ) where
       (ap (λ (t : Bool). not t && bytes_eq (written leg) (written leg)) (same_self leg)))
   group_by legs leg text None is false has = refl
   group_by legs leg text (Some first) is true has =
-      let line_is : written first ≡ text = same_text (written first) text (found (has_text written text) (λ _. true) legs first is).0 in
+      let line_is : written first ≡ text =
+      same_text (written first) text (found (has_text written text) (λ _. true) legs first is).0 in
       let texts : written leg ≡ written first = same_text (written leg) text has ∙ sym line_is in
       ap (λ (t : Bool). Some (first, t))
       (like_one_more legs leg first
       ∙ ap (λ (t : Bool). is_like_one_by written legs first || t)
-      (ap₂ (λ (a b : Bool). not a && b) (same_either first leg (same_leg first leg) refl) ((bytes_eq-Decides (written leg) (written first)).1 texts)
+      (ap₂ (λ (a b : Bool). not a && b) (same_either first leg (same_leg first leg) refl)
+      ((bytes_eq-Decides (written leg) (written first)).1 texts)
       ∙ with_true (not (same_leg first leg))))
     where
       with_true : (b : Bool) → (b && true) ≡ b
       with_true true = refl
       with_true false = refl
   group_by legs leg text (Some first) is false has =
-      let line_is : written first ≡ text = same_text (written first) text (found (has_text written text) (λ _. true) legs first is).0 in
+      let line_is : written first ≡ text =
+      same_text (written first) text (found (has_text written text) (λ _. true) legs first is).0 in
       ap (λ (t : Bool). Some (first, t))
       (like_one_more legs leg first
       ∙ (ap (λ (t : Bool). is_like_one_by written legs first || t)
@@ -176,10 +187,12 @@ module _ (written : LegValue → List ℕ) where
 
   -- the group with a line after one more leg
   pub group_more : (legs : Legs) (leg : LegValue) (text : List ℕ)
-      → group_of written (legs ++ leg ∷ []) text ≡ with_leg (written leg) leg text (group_of written legs text)
+      → group_of written (legs ++ leg ∷ []) text ≡ with_leg (written leg) leg text
+      (group_of written legs text)
   group_more legs leg text =
       ap (with_mark (legs ++ leg ∷ [])) (find-append (has_text written text) legs (leg ∷ []))
-      ∙ group_by legs leg text (find (has_text written text) legs) refl (has_text written text leg) refl
+      ∙ group_by legs leg text (find (has_text written text) legs) refl (has_text written text leg)
+      refl
 
   -- ---- what the groups say of each leg
 
@@ -188,9 +201,11 @@ module _ (written : LegValue → List ℕ) where
       → is_like_one_by written legs first ≡ is_like_one_by written legs leg
   marked_by legs leg first h is true same = ap (is_like_one_by written legs) (one_leg first leg same)
   marked_by legs leg first h is false same =
-      let has = found (has_text written (written leg)) (λ other. is_like_by written other leg) legs first is in
+      let has = found (has_text written (written leg)) (λ other. is_like_by written other leg) legs
+      first is in
       let texts : written first ≡ written leg = same_text (written first) (written leg) has.0 in
-      any_of (λ other. is_like_by written other first) leg legs h (like leg first (same_either first leg false same) (sym texts))
+      any_of (λ other. is_like_by written other first) leg legs h
+      (like leg first (same_either first leg false same) (sym texts))
       ∙ sym (has.1 (like first leg same texts))
 
   -- the group of a leg's line says whether the leg is marked
@@ -236,4 +251,5 @@ pub marked_lines : (name : List ℕ) (mixed : List ℕ → Bool) (pieces : List 
     → ((text : List ℕ) → mixed text ≡ is_mixed (group_of leg_text (legs_of pieces) text))
     → flat_map (grouped_lines name mixed) pieces ≡ flat_map (piece_lines name (legs_of pieces)) pieces
 marked_lines name mixed pieces is =
-    pieces_same name mixed (legs_of pieces) pieces (λ leg e. is (leg_text leg) ∙ marked_is leg_text (legs_of pieces) leg e)
+    pieces_same name mixed (legs_of pieces) pieces
+    (λ leg e. is (leg_text leg) ∙ marked_is leg_text (legs_of pieces) leg e)

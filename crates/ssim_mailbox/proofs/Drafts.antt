@@ -15,10 +15,12 @@ use Rattle.ssim_mailbox.specs.internal.Texts.{HasLines, IsFirstNumber, ended_fro
 
 -- ---- the ends of lists
 
-pub kept_first : {X : Type 0} (test : X → Bool) (x : X) (xs : List X) → test x ≡ false → drop_while test (x ∷ xs) ≡ x ∷ xs
+pub kept_first : {X : Type 0} (test : X → Bool) (x : X) (xs : List X) → test x ≡ false
+    → drop_while test (x ∷ xs) ≡ x ∷ xs
 kept_first test x xs h = rw h refl
 
-pub dropped_first : {X : Type 0} (test : X → Bool) (x : X) (xs : List X) → test x ≡ true → drop_while test (x ∷ xs) ≡ drop_while test xs
+pub dropped_first : {X : Type 0} (test : X → Bool) (x : X) (xs : List X) → test x ≡ true
+    → drop_while test (x ∷ xs) ≡ drop_while test xs
 dropped_first test x xs h = rw h refl
 
 kept_last : {X : Type 0} (test : X → Bool) (xs : List X) (x : X) → test x ≡ false → drop_while_at_end test (xs ++ x ∷ []) ≡ xs ++ x ∷ []
@@ -57,7 +59,8 @@ left_at : {X : Type 0} (test : X → Bool) (x : X) (xs : List X) (y : X) (ys : L
 left_at test x xs y ys true t h e = h (sym (dropped_first test x xs t) ∙ e)
 left_at test x xs y ys false t h e = sym (ap test (same_first x y xs ys (sym (kept_first test x xs t) ∙ e))) ∙ t
 
-pub left_first : {X : Type 0} (test : X → Bool) (xs : List X) (y : X) (ys : List X) → drop_while test xs ≡ y ∷ ys → test y ≡ false
+pub left_first : {X : Type 0} (test : X → Bool) (xs : List X) (y : X) (ys : List X)
+    → drop_while test xs ≡ y ∷ ys → test y ≡ false
 left_first test [] y ys e = absurd (nil_cons y ys (sym e))
 left_first test (x ∷ xs) y ys e = left_at test x xs y ys (test x) refl (left_first test xs y ys) e
 

@@ -153,7 +153,8 @@ pub plan_of_days : (from to : DeskSeen) (rows : List Row) (old new after : Fligh
     → AllByRecursion (λ (sub : PlannedSub). IsSaid sub.action) plan
     → AllByRecursion (NamesDifferences old new) plan → ActOnTheirDates rows plan old
     → ComeInOrder plan → DoNotOverlap plan → HasPlan from to plan unsaid
-plan_of_days from to rows old new after plan unsaid rows_are exist is_old is_new leave published unsaid_is said differing acting ordered apart =
+plan_of_days from to rows old new after plan unsaid rows_are exist is_old is_new leave published
+    unsaid_is said differing acting ordered apart =
     let agree = agree_equal old (days_of_desk from) is_old in
     let agree_too = agree_equal new (days_of_desk to) is_new in
     record {

@@ -2,7 +2,8 @@
 use Rattle.std.proofs.Common.{◌≡◌, ◌∙◌, ◌⊎◌, inl, inr, ℕ, ◌<◌, Bool, true, false, ◌&&◌, ◌||◌, nat_eq}
 use Rattle.std.proofs.Common.{nat_le, nat_lt, not, slice_get, slice_index_or, ◌+◌, ◌≤◌, Some}
 use Rattle.std.proofs.lemmas.Option.{get_or_from_slice_get}
-use Rattle.std.proofs.Common.{if◌then◌else◌, List, [], ◌∷◌, ◌++◌, length, map, refl, sym, ap, subst, arith}
+use Rattle.std.proofs.Common.{if◌then◌else◌, List, [], ◌∷◌, ◌++◌, length, map, refl, sym, ap, subst}
+use Rattle.std.proofs.Common.{arith}
 use Rattle.std.specs.Prelude.{IsTrue}
 use Rattle.std.specs.List.{AllByRecursion}
 use Rattle.std.proofs.lemmas.Bool.Decides.{nat_tests}
@@ -239,39 +240,40 @@ module _ (rows : List Row) (old new : FlightNumber → Days) where
       → ((n : ℕ) → n < day_count → holds period n ≡ true
       → ActEach rows n actions (on_day (days_in before.schedule flight) n))
       → Settles rows old new (dates_of_period flight period) before after
-  more_acted before after actions flight period is said names made fresh subs acts as_long each = record {
-    draft = record {
-      leave = λ g n exists within. acts g n exists within
-          ∙ ap (after_actions rows actions flight period g n) (is.leave g n exists within)
-          ∙ sym (after_planned rows actions flight period g n
-          (legs_after rows before.subs.items g n (on_day (old g) n)))
-          ∙ sym (after_both rows before.subs.items (map (planned flight period) actions) g n
-          (on_day (old g) n))
-          ∙ ap (λ (all : List PlannedSub). legs_after rows all g n (on_day (old g) n)) (sym subs);
-      said = subst (AllByRecursion (λ (sub : PlannedSub). IsSaid sub.action)) (sym subs)
-          (all_both (λ (sub : PlannedSub). IsSaid sub.action) before.subs.items
-          (map (planned flight period) actions) is.said (said_planned flight period actions said));
-      acting = λ g n exists within. subst
-          (λ (all : List PlannedSub). ActOn rows all g n (on_day (old g) n)) (sym subs)
-          (on_both rows before.subs.items (map (planned flight period) actions) g n
-          (on_day (old g) n) (is.acting g n exists within)
-          (on_planned rows actions flight period g n
-          (legs_after rows before.subs.items g n (on_day (old g) n))
-          (acts_on g n exists within)));
-      differing = subst (AllByRecursion (NamesDifferences old new)) (sym subs)
-          (all_both (NamesDifferences old new) before.subs.items
-          (map (planned flight period) actions) is.differing
-          (any_planned (NamesDifferences old new) flight period actions names));
-      as_long = λ g. as_long g ∙ is.as_long g;
-      between = λ g n exists within. between_by g n exists within
-          (same_flight flight g && holds period n) refl;
-      made = λ g n exists within. made_of g n exists within;
-      apart = λ g n exists within. period_of g n exists within
-          (same_flight flight g && holds period n) refl;
-    };
-    settled = λ g n exists within. settled_by g n exists within
-        (same_flight flight g && holds period n) refl;
-  }
+  more_acted before after actions flight period is said names made fresh subs acts as_long each =
+      record {
+        draft = record {
+          leave = λ g n exists within. acts g n exists within
+              ∙ ap (after_actions rows actions flight period g n) (is.leave g n exists within)
+              ∙ sym (after_planned rows actions flight period g n
+              (legs_after rows before.subs.items g n (on_day (old g) n)))
+              ∙ sym (after_both rows before.subs.items (map (planned flight period) actions) g n
+              (on_day (old g) n))
+              ∙ ap (λ (all : List PlannedSub). legs_after rows all g n (on_day (old g) n)) (sym subs);
+          said = subst (AllByRecursion (λ (sub : PlannedSub). IsSaid sub.action)) (sym subs)
+              (all_both (λ (sub : PlannedSub). IsSaid sub.action) before.subs.items
+              (map (planned flight period) actions) is.said (said_planned flight period actions said));
+          acting = λ g n exists within. subst
+              (λ (all : List PlannedSub). ActOn rows all g n (on_day (old g) n)) (sym subs)
+              (on_both rows before.subs.items (map (planned flight period) actions) g n
+              (on_day (old g) n) (is.acting g n exists within)
+              (on_planned rows actions flight period g n
+              (legs_after rows before.subs.items g n (on_day (old g) n))
+              (acts_on g n exists within)));
+          differing = subst (AllByRecursion (NamesDifferences old new)) (sym subs)
+              (all_both (NamesDifferences old new) before.subs.items
+              (map (planned flight period) actions) is.differing
+              (any_planned (NamesDifferences old new) flight period actions names));
+          as_long = λ g. as_long g ∙ is.as_long g;
+          between = λ g n exists within. between_by g n exists within
+              (same_flight flight g && holds period n) refl;
+          made = λ g n exists within. made_of g n exists within;
+          apart = λ g n exists within. period_of g n exists within
+              (same_flight flight g && holds period n) refl;
+        };
+        settled = λ g n exists within. settled_by g n exists within
+            (same_flight flight g && holds period n) refl;
+      }
     where
       -- a date of the period
       made_on : (g : FlightNumber) (n : ℕ) → n < day_count
@@ -533,7 +535,8 @@ pub kept_period : (rows : List Row) (old new : FlightNumber → Days) (before af
     → Acts rows actions flight period before.schedule after.schedule
     → AreAsLong before.schedule after.schedule → period.last < length (old flight)
     → ActOnEach rows actions flight period before.schedule → IsDraft rows old new after
-kept_period rows old new before after actions flight period exists within is said first made subs acts as_long last each =
+kept_period rows old new before after actions flight period exists within is said first made subs acts
+    as_long last each =
     let all = more_acted rows old new before after actions flight period is said
     (λ action. record { some = (period.first, within, first); each = differ })
     (λ n w h. (made n w h).0) (λ n w h. (made n w h).1) subs acts as_long

@@ -47,13 +47,15 @@ same_filter p q (x ∷ xs) h =
 kept_rank : {X : Type 0} (key : X → ℕ) (xs ys : List X) (x : X) → IsStableByKey key nat_cmp xs ys
     → filter (λ y. key y == key x) ys ≡ filter (λ y. key y == key x) xs
 kept_rank {X} key xs ys x stable =
-    let test = λ (y : X). not (is_lt (nat_cmp (key x) (key y))) && not (is_lt (nat_cmp (key y) (key x))) in
+    let test = λ (y : X). not (is_lt (nat_cmp (key x) (key y))) && not
+    (is_lt (nat_cmp (key y) (key x))) in
     let same = λ (y : X). tied (key x) (key y) in
     sym (same_filter test (λ y. key y == key x) ys same) ∙ stable x
     ∙ same_filter test (λ y. key y == key x) xs same
 
 -- from the clause `stable` of `sort_by_key`, where each call gives the rank of the element
-pub stable_ranks : {F : Type 0} {g : Mut F (Bor PlannedSub × Unit {0}) ℕ} {f : F} (xs ys : List PlannedSub)
+pub stable_ranks : {F : Type 0} {g : Mut F (Bor PlannedSub × Unit {0}) ℕ} {f : F}
+    (xs ys : List PlannedSub)
     → ((key : PlannedSub → ℕ) → ComputesKey g key f → IsStableByKey key nat_cmp xs ys)
     → ((a : Bor PlannedSub × Unit {0}) (r : ℕ) (f' : F) → Called g f a r f'
     → (r ≡ rank a.0.now) × (f' ≡ f)) → (like : PlannedSub)
@@ -98,13 +100,15 @@ ranked g n period (sub ∷ subs) h = (of_one, ranked g n period subs h.1)
   where
     of_one : names_date g n sub ≡ true → (rank sub == rank (like_at g period)) ≡ true
     of_one named =
-        let flight_is = same-true sub.flight g (both (same_flight sub.flight g) (holds sub.period n) named).0 in
+        let flight_is =
+        same-true sub.flight g (both (same_flight sub.flight g) (holds sub.period n) named).0 in
         equal-true (rank sub) (rank (like_at g period))
         (ap₂ (λ (f : FlightNumber) (p : DayRange). (f.number * 128 + f.suffix) * 65536 + p.first)
         flight_is (h.0 named))
 
 -- what holds of all sub-messages holds of them in another order
-pub every_sorted : (P : PlannedSub → Type 0) (subs sorted : List PlannedSub) → IsPermutation subs sorted
+pub every_sorted : (P : PlannedSub → Type 0) (subs sorted : List PlannedSub)
+    → IsPermutation subs sorted
     → AllByRecursion P subs → AllByRecursion P sorted
 every_sorted P subs sorted moved h =
     recursion_from_All P sorted (All-permutation P subs sorted moved (All-from_recursion P subs h))
@@ -194,7 +198,8 @@ act_all rows (sub ∷ subs) g n legs h =
         let k : ActOn rows named g n legs =
         subst (λ (b : Bool). ActOn rows (cond b (sub ∷ named) named) g n legs) e h in (
           λ is. let bad : false ≡ true = sym e ∙ is in absurd cc,
-          subst (λ (b : Bool). ActOn rows subs g n (if b then after_on rows sub.action n legs else legs))
+          subst (λ (b : Bool). ActOn rows subs g n
+              (if b then after_on rows sub.action n legs else legs))
               (sym e) (rest legs k),
         )
 
@@ -213,7 +218,8 @@ pub legs_sorted : (rows : List Row) (subs sorted : List PlannedSub) (g : FlightN
     → legs_after rows sorted g n legs ≡ legs_after rows subs g n legs
 legs_sorted rows subs sorted g n legs is one =
     sym (legs_named rows sorted g n legs)
-    ∙ ap (λ (named : List PlannedSub). legs_after rows named g n legs) (same_named subs sorted g n is one)
+    ∙ ap (λ (named : List PlannedSub). legs_after rows named g n legs)
+    (same_named subs sorted g n is one)
     ∙ legs_named rows subs g n legs
 
 -- sorted, they act on a date if they did before

@@ -18,11 +18,18 @@ pub five_joined : (a x y z w v : List ℕ) {b c d e f : List ℕ} → b ≡ a ++
 five_joined a x y z w v g h i j k = joined a (x ++ y ++ z ++ w) v (four_joined a x y z w g h i j) k
 
 -- seven lists, one after another
-pub seven_joined : (a x y z w v u t : List ℕ) {b c d e f g h : List ℕ} → b ≡ a ++ x → c ≡ b ++ y → d ≡ c ++ z → e ≡ d ++ w → f ≡ e ++ v → g ≡ f ++ u → h ≡ g ++ t
+pub seven_joined : (a x y z w v u t : List ℕ) {b c d e f g h : List ℕ} → b ≡ a ++ x → c ≡ b ++ y
+    → d ≡ c ++ z → e ≡ d ++ w → f ≡ e ++ v → g ≡ f ++ u → h ≡ g ++ t
     → h ≡ a ++ (x ++ y ++ z ++ w ++ v ++ u ++ t)
-seven_joined a x y z w v u t i j k l m n o = joined a (x ++ y ++ z ++ w ++ v ++ u) t (joined a (x ++ y ++ z ++ w ++ v) u (five_joined a x y z w v i j k l m) n) o
+seven_joined a x y z w v u t i j k l m n o =
+    joined a (x ++ y ++ z ++ w ++ v ++ u) t
+    (joined a (x ++ y ++ z ++ w ++ v) u (five_joined a x y z w v i j k l m) n) o
 
 -- nine lists, one after another
-pub nine_joined : (x y z w v u t s r : List ℕ) {b c d e f g h p q : List ℕ} → b ≡ [] ++ x → c ≡ b ++ y → d ≡ c ++ z → e ≡ d ++ w → f ≡ e ++ v → g ≡ f ++ u → h ≡ g ++ t → p ≡ h ++ s → q ≡ p ++ r
+pub nine_joined : (x y z w v u t s r : List ℕ) {b c d e f g h p q : List ℕ} → b ≡ [] ++ x → c ≡ b ++ y
+    → d ≡ c ++ z → e ≡ d ++ w → f ≡ e ++ v → g ≡ f ++ u → h ≡ g ++ t → p ≡ h ++ s → q ≡ p ++ r
     → q ≡ x ++ y ++ z ++ w ++ v ++ u ++ t ++ s ++ r
-nine_joined x y z w v u t s r i j k l m n o p q = joined [] (x ++ y ++ z ++ w ++ v ++ u ++ t ++ s) r (joined [] (x ++ y ++ z ++ w ++ v ++ u ++ t) s (seven_joined [] x y z w v u t i j k l m n o) p) q
+nine_joined x y z w v u t s r i j k l m n o p q =
+    joined [] (x ++ y ++ z ++ w ++ v ++ u ++ t ++ s) r
+    (joined [] (x ++ y ++ z ++ w ++ v ++ u ++ t) s (seven_joined [] x y z w v u t i j k l m n o) p)
+    q

@@ -7,10 +7,12 @@ use Rattle.ssim_calendar.proofs.letters.place_of.Goals as goal
 pub returns-in-Some : goal.returns-in-Some
 returns-in-Some g c =
     let values = c.args.values.now in
-    sym (place_is g.V.Value.alike values c.args.value.now ∙ ap (λ (o : Option ℕ). unwrap_or o (length values)) (sym c.in-Some.ensures.value))
+    sym (place_is g.V.Value.alike values c.args.value.now
+    ∙ ap (λ (o : Option ℕ). unwrap_or o (length values)) (sym c.in-Some.ensures.value))
 
 pub returns-in-None : goal.returns-in-None
 returns-in-None g c =
     let values = c.args.values.now in
     sym (length-map c.values.result.now (λ value. value.now)) ∙ ap length c.values.ensures
-    ∙ sym (place_is g.V.Value.alike values c.args.value.now ∙ ap (λ (o : Option ℕ). unwrap_or o (length values)) (sym c.in-None.ensures.value))
+    ∙ sym (place_is g.V.Value.alike values c.args.value.now
+    ∙ ap (λ (o : Option ℕ). unwrap_or o (length values)) (sym c.in-None.ensures.value))

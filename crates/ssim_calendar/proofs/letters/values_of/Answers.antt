@@ -11,7 +11,9 @@ loop-number-preserved g c =
     let at : slice_get days n ≡ Some v = ap (λ (k : ℕ). slice_get days k) (sym c.day_at.ensures) ∙ c.at.ensures in
     let before : n < length days = there days n v at in
     let within : n ≤ length days = omega arith in
-    c.in_ok-add_new.ensures ∙ sym (new_more g.V.Value.alike g.V.Value.nothing g.met.V.Value.exact days c.loop-number.values n v within at c.loop-number.invariant)
+    c.in_ok-add_new.ensures ∙ sym
+    (new_more g.V.Value.alike g.V.Value.nothing g.met.V.Value.exact days c.loop-number.values n v
+    within at c.loop-number.invariant)
 
 pub returns : goal.returns
 returns g c =

@@ -14,10 +14,12 @@ pub returns : goal.returns
 returns c = λ other.
     let key = c.args.text.items in
     let leg = c.args.leg.now in
-    let old : List ℕ → Option LegGroup = λ bs. get_by (λ k. slice_cmp nat_cmp bs k.items) c.args.groups.now in
+    let old : List ℕ → Option LegGroup =
+    λ bs. get_by (λ k. slice_cmp nat_cmp bs k.items) c.args.groups.now in
     let group = c.grown-group.result in
     let seen : LegGroup → GroupSeen = λ g. (g.first.now, g.is_mixed) in
     let group_is = c.grown-group.ensures ∙ ap (grown leg) (copied seen c.get.result ∙ ap (option_map seen) (c.get.ensures.value ∙ ap old c.as_slice.ensures.value)) in
-    ap (λ es. option_map seen (lookup (is_at (λ k. slice_cmp nat_cmp other k.items)) es)) c.in_ok-insert.ensures.entries
+    ap (λ es. option_map seen (lookup (is_at (λ k. slice_cmp nat_cmp other k.items)) es))
+    c.in_ok-insert.ensures.entries
     ∙ (ap (option_map seen) (put_found c.args.groups.now.entries c.args.text group other)
     ∙ put_or_kept seen leg group old key other group_is (bytes_eq key other) refl)

@@ -1,5 +1,6 @@
 -- One more leg goes to its group.
-use Rattle.std.proofs.Common.{ℕ, List, ◌≡◌, ◌∙◌, ◌+◌, ◌++◌, ◌∷◌, [], sym, ap, append_assoc, take, arith}
+use Rattle.std.proofs.Common.{ℕ, List, ◌≡◌, ◌∙◌, ◌+◌, ◌++◌, ◌∷◌, [], sym, ap, append_assoc, take}
+use Rattle.std.proofs.Common.{arith}
 use Rattle.std.proofs.lemmas.Grind.{common_steps}
 use Rattle.ssim_base.specs.Timetable.{Legs}
 use Rattle.ssim_listing.specs.LegText.{leg_text}

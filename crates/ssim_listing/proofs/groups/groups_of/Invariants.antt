@@ -7,4 +7,5 @@ use Rattle.ssim_listing.proofs.groups.groups_of.Given as goal
 
 abbrev pub invariant-loop-piece : goal.invariant-loop-piece
 invariant-loop-piece l =
-    (text : List ℕ) → group_in l.groups text ≡ group_of leg_text (legs_of (take l.piece-index l.pieces)) text
+    (text : List ℕ) → group_in l.groups text ≡ group_of leg_text
+    (legs_of (take l.piece-index l.pieces)) text

@@ -17,7 +17,8 @@ loop-first-preserved-then-holds_number c n before within held =
         (days_in c.args.before.now c.args.change.now.flight) c.args.change.now.new.days n
     by (inl from) = made_weeks (days_in c.args.made.now c.args.change.now.flight)
         (days_in c.args.before.now c.args.change.now.flight) c.args.change.now.new.days c.args.period
-        c.loop-first.first c.next_cut-next.result c.next_cut-next.ensures.made c.next_cut-next.ensures.before
+        c.loop-first.first c.next_cut-next.result c.next_cut-next.ensures.made
+        c.next_cut-next.ensures.before
         c.next_cut-next.ensures.new (c.if-not-is_made_between.ensures refl)
         (sym c.holds_number-in-loop-first.ensures ∙ c.if-holds_number.true) n from before within held
     by (inr less) = c.loop-first.invariant n less within held

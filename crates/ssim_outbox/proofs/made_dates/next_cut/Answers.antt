@@ -13,7 +13,8 @@ returns-clause-made c =
 
 pub returns-clause-before : goal.returns-clause-before
 returns-clause-before c =
-    weekly_between (days_in c.args.before.now c.args.change.now.flight) c.cuts-2.result.now c.args.first
+    weekly_between (days_in c.args.before.now c.args.change.now.flight) c.cuts-2.result.now
+    c.args.first
     c.cut_after-before_end.result c.cut_after.result c.cuts-2.ensures.weekly
     c.cut_after-before_end.ensures.none c.cut_after.ensures.to
 

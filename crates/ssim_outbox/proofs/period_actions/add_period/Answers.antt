@@ -37,7 +37,8 @@ returns c =
     → holds period n ≡ true → IsMadeOn (days_in tried flight)
     (days_in c.args.draft.now.schedule flight) (to flight) n =
     (λ from to is n within held.
-    subst (λ (days : Days). IsMadeOn (days_in tried flight) (days_in c.args.draft.now.schedule flight) days n)
+    subst (λ (days : Days). IsMadeOn (days_in tried flight) (days_in c.args.draft.now.schedule flight)
+    days n)
     is.new_days (made n within held)) in
     let exists : IsFlight flight = record {
       number_to = subst (λ n. n ≤ 9999) c.number.ensures.value c.number.ensures.bound;

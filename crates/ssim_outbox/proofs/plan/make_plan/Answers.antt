@@ -12,7 +12,8 @@ use Rattle.ssim_outbox.specs.Reach.{IsSaid}
 use Rattle.ssim_outbox.specs.declared.planned_sub.PlannedSub.{PlannedSub}
 use Rattle.ssim_outbox.specs.internal.Drafts.{Settles, dates_of_flights}
 use Rattle.ssim_outbox.proofs.Settling.{nothing_yet, published_after}
-use Rattle.ssim_outbox.proofs.Sorted.{IsRanked, act_sorted, all_ranked, come_in_order, every_sorted, legs_sorted, period_sorted}
+use Rattle.ssim_outbox.proofs.Sorted.{IsRanked, act_sorted, all_ranked, come_in_order, every_sorted}
+use Rattle.ssim_outbox.proofs.Sorted.{legs_sorted, period_sorted}
 use Rattle.ssim_outbox.proofs.plan.make_plan.Goals as goal
 use Rattle.ssim_outbox.proofs.plan.make_plan.Goals.{After-drop-wanted-2}
 
@@ -71,7 +72,8 @@ returns-clause-acting c =
 pub returns-clause-ordered : goal.returns-clause-ordered
 returns-clause-ordered c =
     let s = settled c in let draft = s.draft in
-    let exist = subst (AllByRecursion (λ (sub : PlannedSub). IsFlight sub.flight)) c.deref-6.ensures.value
+    let exist =
+    subst (AllByRecursion (λ (sub : PlannedSub). IsFlight sub.flight)) c.deref-6.ensures.value
     c.flights_exist.ensures in
     come_in_order c.in_ok-subs.subs.items
     (every_sorted IsRanked c.settle_flights.new.draft.subs.items c.in_ok-subs.subs.items

@@ -8,6 +8,7 @@ pub returns : goal.returns
 unfolding change
 returns c =
     let piece = c.args.piece.now in
-    three_joined c.args.page.now.items (change_title c.args.name.now piece.0) (change_lines piece.1) (codes "</pre></article>\n")
+    three_joined c.args.page.now.items (change_title c.args.name.now piece.0) (change_lines piece.1)
+    (codes "</pre></article>\n")
     c.in_ok-push_title.ensures c.in_ok-push_lines.ensures
     c.in_ok-extend_from_slice.ensures.items

@@ -9,4 +9,5 @@ pub returns : goal.returns
 unfolding change_lines
 returns c =
     on_ok_weaker c.push_escaped.result (λ d. d
-    ∙ ap (λ lines. c.args.page.now.items ++ escaped lines) (c.deref.ensures.value ∙ c.in_ok-lines.ensures)) c.push_escaped.ensures
+    ∙ ap (λ lines. c.args.page.now.items ++ escaped lines)
+    (c.deref.ensures.value ∙ c.in_ok-lines.ensures)) c.push_escaped.ensures

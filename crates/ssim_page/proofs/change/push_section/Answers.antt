@@ -7,6 +7,7 @@ use Rattle.ssim_page.proofs.change.push_section.Goals as goal
 pub returns : goal.returns
 unfolding change_section
 returns c =
-    three_joined c.args.page.now.items (codes "<section id=\"changes\"><h2>Changes</h2>\n") (change_articles c.args.airline c.args.flights.now) (codes "</section>\n")
+    three_joined c.args.page.now.items (codes "<section id=\"changes\"><h2>Changes</h2>\n")
+    (change_articles c.args.airline c.args.flights.now) (codes "</section>\n")
     c.in_ok-extend_from_slice.ensures.items c.in_ok-push_articles.ensures
     c.in_ok-extend_from_slice-2.ensures.items

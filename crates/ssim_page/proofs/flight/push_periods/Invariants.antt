@@ -5,4 +5,5 @@ use Rattle.ssim_page.specs.Flight.{piece_line}
 use Rattle.ssim_page.proofs.flight.push_periods.Given as goal
 
 abbrev pub invariant-loop-piece : goal.invariant-loop-piece
-invariant-loop-piece l = l.page.items ≡ l.initial.page.items ++ flat_map (piece_line l.found) (take l.piece-index l.pieces)
+invariant-loop-piece l =
+    l.page.items ≡ l.initial.page.items ++ flat_map (piece_line l.found) (take l.piece-index l.pieces)

@@ -21,7 +21,9 @@ loop-piece-preserved c =
     ∙ ap (option_map legs) (slice_get-get_or pieces n piece within ∙ ap Some (sym c.piece-item.is)) in
     let before : n < length values = there values n piece.1 at in
     let up_to : n ≤ length values = omega arith in
-    c.in_ok-add_new.ensures ∙ sym (new_more same_itinerary [] exact_itinerary values c.loop-piece.found n piece.1 up_to at c.loop-piece.invariant)
+    c.in_ok-add_new.ensures ∙ sym
+    (new_more same_itinerary [] exact_itinerary values c.loop-piece.found n piece.1 up_to at
+    c.loop-piece.invariant)
 
 pub returns : goal.returns
 returns c =

@@ -5,4 +5,5 @@ use Rattle.ssim_calendar.specs.Letters.{new_values}
 use Rattle.ssim_page.proofs.key.itineraries.Given as goal
 
 abbrev pub invariant-loop-piece : goal.invariant-loop-piece
-invariant-loop-piece l = l.found ≡ new_values same_itinerary [] (map (λ piece. piece.1) l.pieces) l.piece-index
+invariant-loop-piece l =
+    l.found ≡ new_values same_itinerary [] (map (λ piece. piece.1) l.pieces) l.piece-index

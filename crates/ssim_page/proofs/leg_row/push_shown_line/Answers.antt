@@ -9,4 +9,5 @@ pub returns : goal.returns
 unfolding shown_line
 returns c =
     on_ok_weaker c.push_escaped.result (λ d. d
-    ∙ ap (λ line. c.args.row.now.items ++ escaped line) (c.deref.ensures.value ∙ c.in_ok-line.ensures)) c.push_escaped.ensures
+    ∙ ap (λ line. c.args.row.now.items ++ escaped line) (c.deref.ensures.value ∙ c.in_ok-line.ensures))
+    c.push_escaped.ensures

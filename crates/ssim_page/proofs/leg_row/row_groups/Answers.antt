@@ -16,7 +16,8 @@ loop-itinerary-preserved c = λ row.
     let now = λ (x : Bor Legs). x.now in
     let so_far = map now (take i all) in
     let more : take (i + 1) all ≡ take i all ++ legs ∷ [] = grind (arith, common_steps) in
-    let seen : map now (take (i + 1) all) ≡ so_far ++ legs.now ∷ [] = ap (map now) more ∙ map-append now (take i all) (legs ∷ []) in
+    let seen : map now (take (i + 1) all) ≡ so_far ++ legs.now ∷ [] =
+    ap (map now) more ∙ map-append now (take i all) (legs ∷ []) in
     c.in_ok-add_legs.ensures (all_legs so_far) c.loop-itinerary.invariant row
     ∙ ap (λ (ls : Legs). group_of leg_row ls row)
     (ap (λ (ls : Legs). all_legs so_far ++ ls) (c.legs.ensures ∙ sym (append-nil legs.now))

@@ -7,4 +7,5 @@ use Rattle.ssim_page.proofs.leg_row.row_groups.Given as goal
 
 abbrev pub invariant-loop-itinerary : goal.invariant-loop-itinerary
 invariant-loop-itinerary l =
-    (row : List ℕ) → group_in l.groups row ≡ group_of leg_row (all_legs (map (λ legs. legs.now) (take l.itinerary-index l.itineraries))) row
+    (row : List ℕ) → group_in l.groups row ≡ group_of leg_row
+    (all_legs (map (λ legs. legs.now) (take l.itinerary-index l.itineraries))) row

@@ -10,5 +10,6 @@ pub returns : goal.returns
 unfolding dated_link
 returns c =
     on_ok_weaker c.push_period.result
-    (λ d. joined c.args.page.now.items (flight_link c.args.name.now) (32 ∷ period_text c.args.period) c.in_ok-push_flight_link.ensures d)
+    (λ d. joined c.args.page.now.items (flight_link c.args.name.now) (32 ∷ period_text c.args.period)
+    c.in_ok-push_flight_link.ensures d)
     c.push_period.ensures

@@ -7,7 +7,8 @@ use Rattle.ssim_page.proofs.link.push_flight_link.Goals as goal
 pub returns : goal.returns
 unfolding flight_link
 returns c =
-    five_joined c.args.page.now.items (codes "<a href=\"#") c.args.name.now (codes "\">") c.args.name.now (codes "</a>")
+    five_joined c.args.page.now.items (codes "<a href=\"#") c.args.name.now (codes "\">")
+    c.args.name.now (codes "</a>")
     c.in_ok-extend_from_slice.ensures.items c.in_ok-extend_from_slice-2.ensures.items
     c.in_ok-extend_from_slice-3.ensures.items c.in_ok-extend_from_slice-4.ensures.items
     c.in_ok-extend_from_slice-5.ensures.items

@@ -13,5 +13,7 @@ returns c =
     let days = 32 ∷ day_text c.first.result ++ 32 ∷ day_text c.last.result in
     on_ok_weaker c.push_shown.result
     (λ d. joined old days (32 ∷ dotted c.write.result) c.in_ok-push_days.ensures d
-    ∙ (λ i. old ++ (32 ∷ ((day_text (c.first.ensures.value i) ++ 32 ∷ day_text (c.last.ensures.value i)) ++ (32 ∷ dotted ((c.write.ensures.places ∙ ap places_of c.mask.ensures.value) i))))))
+    ∙ (λ i. old ++ (32 ∷ ((day_text (c.first.ensures.value i)
+    ++ 32 ∷ day_text (c.last.ensures.value i))
+    ++ (32 ∷ dotted ((c.write.ensures.places ∙ ap places_of c.mask.ensures.value) i))))))
     c.push_shown.ensures

@@ -7,6 +7,7 @@ use Rattle.ssim_page.proofs.message.push_section.Goals as goal
 pub returns : goal.returns
 unfolding message_section
 returns c =
-    three_joined c.args.page.now.items (codes "<section id=\"messages\"><h2>Messages</h2>\n") c.args.articles.now (codes "</section>\n")
+    three_joined c.args.page.now.items (codes "<section id=\"messages\"><h2>Messages</h2>\n")
+    c.args.articles.now (codes "</section>\n")
     c.in_ok-extend_from_slice.ensures.items c.in_ok-extend_from_slice-2.ensures.items
     c.in_ok-extend_from_slice-3.ensures.items

@@ -13,6 +13,8 @@ unfolding sub_begin
 returns c =
     let begin = codes "<li>" ++ identifier_text c.args.action ++ codes " " in
     on_ok_weaker c.push_dated_link.result
-    (λ d. joined c.args.lines.now.items begin (dated_link (designator_text c.args.designator) c.args.period) c.in_ok-push_action.ensures
-    (d ∙ ap (λ name. c.push_action.new.lines.items ++ dated_link name c.args.period) (c.as_slice.ensures.value ∙ c.write.ensures.value)))
+    (λ d. joined c.args.lines.now.items begin
+    (dated_link (designator_text c.args.designator) c.args.period) c.in_ok-push_action.ensures
+    (d ∙ ap (λ name. c.push_action.new.lines.items ++ dated_link name c.args.period)
+    (c.as_slice.ensures.value ∙ c.write.ensures.value)))
     c.push_dated_link.ensures

@@ -9,8 +9,11 @@ pub returns : goal.returns
 unfolding message_title
 returns c =
     let reference = c.args.reference.now in
-    five_joined c.args.articles.now.items (codes "<article id=\"") (mark reference) (codes "\"><h3>") (printed_reference reference) (codes "</h3><ol>\n")
+    five_joined c.args.articles.now.items (codes "<article id=\"") (mark reference) (codes "\"><h3>")
+    (printed_reference reference) (codes "</h3><ol>\n")
     c.in_ok-extend_from_slice.ensures.items c.in_ok-push_mark.ensures
     c.in_ok-extend_from_slice-2.ensures.items
-    (c.in_ok-extend_from_slice-3.ensures.items ∙ ap (λ name. c.extend_from_slice-2.new.self.items ++ name) (c.deref-2.ensures.value ∙ c.in_ok-name.ensures))
+    (c.in_ok-extend_from_slice-3.ensures.items
+    ∙ ap (λ name. c.extend_from_slice-2.new.self.items ++ name)
+    (c.deref-2.ensures.value ∙ c.in_ok-name.ensures))
     c.in_ok-extend_from_slice-4.ensures.items

@@ -11,6 +11,12 @@ pub returns : goal.returns
 unfolding whole_page
 returns c =
     let heading = c.args.heading.now in
-    nine_joined (document_title heading) look (shown_title heading) bar (timetable heading.airline c.args.flights.now) (changes heading.airline c.args.changes.now) (messages c.args.messages.now) script document_end
-    (c.in_ok-push_document_title.ensures ∙ ap (λ start. start ++ document_title heading) c.new-page.ensures.items) c.in_ok-push_look.ensures c.in_ok-push_shown_title.ensures c.in_ok-push_bar.ensures c.in_ok-push_timetable.ensures
-    c.in_ok-push_changes.ensures c.in_ok-push_messages.ensures c.in_ok-push_script.ensures c.in_ok-push_end.ensures
+    nine_joined (document_title heading) look (shown_title heading) bar
+    (timetable heading.airline c.args.flights.now) (changes heading.airline c.args.changes.now)
+    (messages c.args.messages.now) script document_end
+    (c.in_ok-push_document_title.ensures
+    ∙ ap (λ start. start ++ document_title heading) c.new-page.ensures.items)
+    c.in_ok-push_look.ensures c.in_ok-push_shown_title.ensures c.in_ok-push_bar.ensures
+    c.in_ok-push_timetable.ensures
+    c.in_ok-push_changes.ensures c.in_ok-push_messages.ensures c.in_ok-push_script.ensures
+    c.in_ok-push_end.ensures

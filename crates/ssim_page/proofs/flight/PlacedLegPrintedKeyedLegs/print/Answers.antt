@@ -13,9 +13,12 @@ returns c =
     let mixed = λ (text : List ℕ). is_mixed (group_in c.args.legs.now.groups.now text) in
     let begun = c.push.new.self.items in
     let count : c.len-begin.result ≡ length begun = omega arith in
-    let text = rest_is begun row c.deref.result.now c.len-begin.result count (c.deref.ensures.value ∙ c.in_ok-push_row.ensures) in
-    five_joined c.args.page.now.items key (codes " ") row (mark_text (mixed row)) (codes "\n") c.in_ok-extend_from_slice.ensures.items c.in_ok-push.ensures.items
+    let text = rest_is begun row c.deref.result.now c.len-begin.result count
+    (c.deref.ensures.value ∙ c.in_ok-push_row.ensures) in
+    five_joined c.args.page.now.items key (codes " ") row (mark_text (mixed row)) (codes "\n")
+    c.in_ok-extend_from_slice.ensures.items c.in_ok-push.ensures.items
     c.in_ok-push_row.ensures
     (c.in_ok-extend_from_slice-2.ensures.items
-    ∙ ap (λ (t : List ℕ). c.push_row.new.lines.items ++ t) (c.mark_of.ensures ∙ ap mark_text (c.are_mixed-marked.ensures ∙ ap mixed text)))
+    ∙ ap (λ (t : List ℕ). c.push_row.new.lines.items ++ t)
+    (c.mark_of.ensures ∙ ap mark_text (c.are_mixed-marked.ensures ∙ ap mixed text)))
     c.in_ok-push-2.ensures.items
