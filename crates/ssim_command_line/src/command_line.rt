@@ -7,6 +7,7 @@ ghost use Rattle.ssim_command_line.specs.Line.{choice_line, choice_of, line_of};
 ghost use Rattle.ssim_command_line.specs.Usage.{Names, line_at};
 ghost use Rattle.ssim_command_line.specs.clauses.Usage.{IsFaultOf};
 
+use crate::command_name::{CommandName, command_named};
 use crate::program::program;
 use crate::table::{PLACES, commands};
 use clap::error::ErrorKind;
@@ -235,13 +236,12 @@ macro_rules! request {
     };
 }
 
-/// The request of the row that has the name.
+/// The request of the row of a command.
 macro_rules! request_of {
     (($of:expr, $given:tt)
         $($name:literal $words:tt => $request:ident $fields:tt $about:literal $example:literal)+) => {
         match $of {
-            $($name => request!($given $request $fields),)+
-            _ => Ok(None),
+            $(CommandName::$request => request!($given $request $fields),)+
         }
     };
 }
@@ -343,7 +343,10 @@ fn make<'a>(
     ensures { IfOk result (λ r. option_map line_of r
         ≡ line_from name.now (rows_of (found_of inner.now)) (map (λ v. v.now) values.now)) }
 {
-    commands!(request_of of (name, (alloc, inner, values)))
+    let Some(command) = command_named(name) else {
+        return Ok(None);
+    };
+    commands!(request_of of (command, (alloc, inner, values)))
 }
 
 /// The request that a subcommand's matches make.

@@ -7,6 +7,7 @@
 #![tactic(auto)]
 
 mod command_line;
+mod command_name;
 mod program;
 mod table;
 
