@@ -4,7 +4,7 @@
 docs/REFUSALS.md has a row for each refusal, whose name, meaning and remedy `explain` prints. No other number has a refusal. A
 file is explained for each number that a file alone may be refused by: the first line has the place, the second the meaning, the
 third what is there, and the last what to do. The byte 1 in any column of any record is explained by the field that it makes invalid. Files
-of other programs are named as docs/FORMATS.md has them. The last line is 'N passed, M failed'. With `page` the meanings and remedies of the
+of other programs are named, and what other systems take of texts is known, as docs/FORMATS.md has them. The last line is 'N passed, M failed'. With `page` the meanings and remedies of the
 rows are written as `explain` prints them, and nothing is compared.
 """
 import gzip
@@ -163,6 +163,34 @@ def foreign_answers(program):
         yield f"a file of {name}", f"foreign {name}\nwhat to do: {remedies[name]}\n", printed(program, "-", data)
 
 
+def known_texts():
+    """Texts with what other systems take, by the first cell of a row of docs/FORMATS.md."""
+    several = "24 at a flight or at a frequency rate; 25, 26 or 27 at a period"
+    flight, period = b"LX544", b"01JUL25 07JUL25 2"
+    actions = {
+        "22 at `SKD`, `REV` or `ADM`": (b"SKD", b"REV", b"ADM"),
+        "22 at `FLT`": (b"FLT",),
+        "22 at `CON`": (b"CON",),
+        "22 at `RRT`": (b"RRT",),
+        "22 at `RIN`": (b"RIN",),
+        "22 at `RSD`, `ACK` or `NAC`": (b"RSD", b"ACK", b"NAC"),
+        "22 at an action that is taken, and more": (b"CNL CREW", b"EQT/ADM", b"NEW XASM"),
+    }
+    for cell, lines in actions.items():
+        for line in lines:
+            yield cell, message(line, start=4)
+    for lines in ([b"CNL", flight, flight, period], [b"CNL", flight, period + b"/W2"], [b"EQT", flight, period, period],
+                  [b"NEW", flight, period, b"J 320", period], [b"CNL", flight, period, period]):
+        yield several, message(*lines, start=4)
+
+
+def known_answers(program):
+    """The line before the last of what is printed of each such text, and what docs/FORMATS.md says of it."""
+    known = {cell: words for cell, words in rows_from("docs/FORMATS.md", "| Refused | `known` |")}
+    for cell, data in known_texts():
+        yield f"a text refused {cell}", f"known: {known[cell.replace('`', '')]}", printed(program, "-", data).splitlines()[-2]
+
+
 def ends_of(text):
     """The first three lines and the last one."""
     lines = text.splitlines(keepends=True)
@@ -196,6 +224,7 @@ def main():
         wanted = f"{first} {place}\n{second}\n{there(data, place)}{last}\n"
         answers.append((f"a file with {number}", wanted, ends_of(printed(program, "-", data))))
     answers += foreign_answers(program)
+    answers += known_answers(program)
     passed = failed = 0
     for name, good, got in columns_explained(program):
         passed, failed = passed + good, failed + (not good)

@@ -15,6 +15,7 @@
 
 mod explanation;
 mod fields;
+mod known;
 mod line_words;
 mod lines;
 mod overlap;

@@ -1,11 +1,13 @@
 //! The words on a line of a text, a station table or a script, and on an element of a desk file.
 
+use crate::known::known_at;
 use crate::lines::{push_line, push_shown};
 use ssim_text::cut;
 use std::alloc::{AllocError, Global};
 
 /// The lines on the line with this number, from 1, at which a refusal has the number `refusal`: its
-/// bytes, or that the file ends before it; and an example of what is allowed there.
+/// bytes, or that the file ends before it; an example of what is allowed there; and what is known of
+/// it, if it is of a text of SSIM that no command takes.
 pub fn words_on_line(
     alloc: Global,
     bytes: &[u8],
@@ -13,12 +15,16 @@ pub fn words_on_line(
     refusal: u8,
 ) -> Result<Vec<u8>, AllocError> {
     let mut lines = Vec::new(alloc);
-    match line_at(bytes, number) {
+    let found = line_at(bytes, number);
+    match found {
         Some(found) => push_shown(&mut lines, "line", found)?,
         None => push_line(&mut lines, "line", "the file ends before it")?,
     }
     if let Some(allowed) = allowed_at(refusal) {
         push_line(&mut lines, "allowed", allowed)?;
+    }
+    if let Some(known) = found.and_then(|line| known_at(line, refusal)) {
+        push_line(&mut lines, "known", known)?;
     }
     Ok(lines)
 }
