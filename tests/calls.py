@@ -1,7 +1,8 @@
 #!/usr/bin/env python3
 """Refuses each growth of memory in turn to the calls of the library in calls.txt: calls.py PROGRAM
 
-PROGRAM is that of crates/ssim_cases. Growth number 1, 2, .. of a run is refused, until a run meets no refusal. Where a call
+PROGRAM is that of crates/ssim_cases. Growth number 1, 2, .. of a run is refused, each in a copy of the program that is made there, and at
+last none. Where a call
 returns that memory is out (90, or 52 of `save` and `export`), the program prints it, looks whether every desk is as before
 (else its status is 3), and makes the call again. So it prints the lines of a run without refusals, and that one. A step of
 `steps` that is refused is not made again: the other lines are those of the same cases without the step. With status 2 memory
@@ -18,7 +19,7 @@ import sys
 import tempfile
 import time
 
-from small_runs import HERE, NEVER, Runs, built_library
+from small_runs import HERE, Runs, built_library
 
 REFUSED = (b"refused 90 Memory\n", b"refused 52 WriteFault\n")
 STEP_REFUSED = b"step refused 90 Memory\n"
@@ -115,14 +116,13 @@ class Sweep:
 
     def refuse(self, first):
         """Refuses growth `first`, and each AT_ONCE-th after it: how many runs, and what was wrong."""
-        faults = []
-        for runs, number in enumerate(range(first, NEVER, AT_ONCE)):
-            answer = self.runs.run([], "growths", number, number, given=self.cases.encode())
+        runs, faults = 0, []
+        for number, answer in self.runs.each([], first, AT_ONCE, self.cases.encode()):
+            runs += 1
             wrong = self.wrong(answer)
             if wrong:
                 faults.append(f"calls: growth {number}: {wrong}: status {answer.status}, {answer.out[-200:]!r}, {answer.err[-200:]!r}")
-            if answer.refused == 0:
-                return runs + 1, faults
+        return runs, faults
 
 
 def sweep(program, library, cases, first):

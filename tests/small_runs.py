@@ -5,6 +5,7 @@
 import dataclasses
 import os
 import shutil
+import struct
 import subprocess
 import tempfile
 
@@ -139,6 +140,25 @@ class Runs:
             if os.path.exists(path):
                 os.unlink(path)
         self.write({name: data for name, data in self.start.items() if files.get(name) != data})
+
+    def each(self, words, first, step, given=b""):
+        """Runs the program, and from a growth on refuses each step-th of them in a copy of it: the number of the growth and the answer of
+        each copy, without files; and at last 0 and the answer of the program itself."""
+        environment = {"LD_PRELOAD": self.library, "REFUSED": "growths", "FROM": str(first), "TO": str(NEVER), "STEP": str(step)}
+        with (tempfile.TemporaryFile(dir=self.room.name) as source, tempfile.TemporaryFile(dir=self.room.name) as out,
+              tempfile.TemporaryFile(dir=self.room.name) as err):
+            source.write(given)
+            source.seek(0)
+            ours, theirs = os.pipe()
+            with (open(ours, "rb") as copies, subprocess.Popen([self.program, *words], cwd=self.folder, stdin=source, stdout=out, stderr=err,
+                                                               env={**environment, "EACH": str(theirs)}, pass_fds=[theirs]) as ran):
+                os.close(theirs)
+                while head := copies.read(32):
+                    number, status, *sizes = struct.unpack("=4q", head)
+                    yield number, Answer(status, copies.read(sizes[0]), copies.read(sizes[1]), {}, 1)
+            out.seek(0)
+            err.seek(0)
+            yield 0, Answer(ran.returncode, out.read(), err.read(), {}, 0)
 
     def run(self, words, what="growths", first=NEVER, last=NEVER, error=0, given=b""):
         """Runs the program, and refuses the calls of these numbers. `given` is its standard input."""
