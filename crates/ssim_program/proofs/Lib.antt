@@ -17,6 +17,7 @@ pub mod Outcomes
 pub mod Scripted
 pub mod Withdrawing
 pub mod Carrying
+pub mod CarriedLines
 pub mod Origins
 pub mod Events
 pub mod Conflicts
@@ -24,6 +25,7 @@ pub mod SavedDesks
 pub mod AcceptedTexts
 pub mod ReceivedConflicts
 pub mod RefusedMail
+pub mod OfficeFiles
 pub mod Offices
 pub mod Turns
 pub mod OneCount

@@ -38,44 +38,9 @@ use Rattle.ssim_program.proofs.SavedDesks.{IsValid, is_listed, same_file, valid_
 use Rattle.ssim_program.proofs.SavedDesks.{valid_file, valid_merge, valid_start, valid_take}
 use Rattle.ssim_program.proofs.Withdrawing.{left_after}
 use Rattle.ssim_program.specs.Withdrawing.{IsNamed}
+use Rattle.ssim_program.proofs.OfficeFiles.{AfterTexts, Holding, IsFounded, IsKept, Messages, Reads}
+use Rattle.ssim_program.proofs.OfficeFiles.{small}
 
--- what messages a desk has
-abbrev Messages : Type 1
-Messages = Reference → MessageValue → Type 0
-
--- the bytes of a file that can be read are those of this desk
-abbrev Reads : Option (List ℕ) → BaseSeen → List Entry → Type 0
-Reads file base held = (bytes : List ℕ) × (length bytes ≤ file_limit) × (file ≡ Some bytes)
-    × IsDeskFile bytes base held
-
--- whichever desk a file is read as, it holds what was brought
-abbrev Holding : Option (List ℕ) → Messages → Type 0
-Holding file brought =
-    (base : BaseSeen) (held : List Entry) → Reads file base held → (r : Reference) (m : MessageValue)
-    → (get (map_of held) r ≡ Some m) ↔ brought r m
-
--- the file is that of a desk over the base, which holds what was brought
-record IsKept (file : Option (List ℕ)) (base : BaseSeen) (brought : Messages) : Type 0 where
-  held : List Entry
-  can : CanBeSaved base held
-  is : file ≡ Some (desk_file base held)
-  holds : (r : Reference) (m : MessageValue) → (get (map_of held) r ≡ Some m) ↔ brought r m
-
--- the file is that of a desk that began from these bytes
-abbrev IsFounded : Option (List ℕ) → Messages → List ℕ → List ℕ → Type 0
-IsFounded file brought dataset stations = (base : BaseSeen) × IsReadFrom base dataset stations
-    × IsKept file base brought
-
-small : (bytes : List ℕ) → length bytes ≤ file_limit → length bytes < 2 ^ 64
-small bytes h = omega (arith, h)
-
--- a desk after some texts
-record AfterTexts (files : Files) (names : List Text) (before after : DeskSeen) : Type 0 where
-  base : after.base ≡ before.base
-  valid : IsValid after.base (map_of after.held)
-  holds : (r : Reference) (m : MessageValue)
-      → (get (map_of after.held) r ≡ Some m) ↔ ((get (map_of before.held) r ≡ Some m)
-      ⊎ IsSaid files before.base names r m)
 
 module _ (one : OneMessage) (again : CanonicalReadsBack) (one_each : OneReference)
     (no_two : NoTwoDesks) where

@@ -5,7 +5,7 @@ use Rattle.ssim_held.specs.Entries.{AreRising, DeskSeen, Entry, IsEntry}
 use Rattle.ssim_program.specs.Desks.{held_line}
 use Rattle.ssim_program.specs.internal.Carry.{CarriesEach, RefusesAny}
 use Rattle.ssim_program.specs.declared.refusal.Refusal.TheVariants as refused
-use Rattle.ssim_program.proofs.Carrying.{is_carry, is_refused}
+use Rattle.ssim_program.proofs.CarriedLines.{is_carry, is_refused}
 use Rattle.ssim_program.proofs.command.carry.carried.Goals as goal
 
 pub returns-in_err-lines-clause-why : goal.returns-in_err-lines-clause-why

@@ -5,7 +5,7 @@ use Rattle.std.specs.Prelude.{All}
 use Rattle.ssim_base.specs.BaseSeen.{BaseSeen}
 use Rattle.ssim_base.specs.ReadBack.{HasFrame}
 use Rattle.ssim_held.specs.Entries.{Entry, IsEntry}
-use Rattle.ssim_program.proofs.Carrying.{all_carried, none_carried, one_carried, one_passed}
+use Rattle.ssim_program.proofs.CarriedLines.{all_carried, none_carried, one_carried, one_passed}
 use Rattle.ssim_program.proofs.command.carry.carry_each.Goals as goal
 
 pub loop-held-init : goal.loop-held-init

@@ -3,7 +3,7 @@ use Rattle.std.specs.Prelude.{All}
 use Rattle.ssim_base.specs.BaseSeen.{BaseSeen}
 use Rattle.ssim_base.specs.ReadBack.{HasFrame}
 use Rattle.ssim_held.specs.Entries.{IsEntry}
-use Rattle.ssim_program.proofs.Carrying.{AreCarried, StopsLater}
+use Rattle.ssim_program.proofs.CarriedLines.{AreCarried, StopsLater}
 use Rattle.ssim_program.proofs.command.carry.carry_each.Given as goal
 
 abbrev pub invariant-loop-held : goal.invariant-loop-held
