@@ -8,7 +8,7 @@ use Rattle.ssim_values.specs.Period.{DayRange}
 use Rattle.ssim_periods.specs.Calendar.{holds}
 
 -- two tests that pass together
-both_ways : (x y : Bool) → (x ≡ true → y ≡ true) → (y ≡ true → x ≡ true) → x ≡ y
+pub both_ways : (x y : Bool) → (x ≡ true → y ≡ true) → (y ≡ true → x ≡ true) → x ≡ y
 both_ways true true to from = refl
 both_ways true false to from = let e = to refl in absurd cc
 both_ways false true to from = let e = from refl in absurd cc

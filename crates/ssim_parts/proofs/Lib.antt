@@ -1,3 +1,11 @@
 pub mod Booleans
 pub mod Changing
 pub mod Choosing
+pub mod EvenDays
+pub mod Held
+pub mod Landing
+pub mod MovedColumns
+pub mod MovedFlights
+pub mod NewTimetable
+pub mod Parting
+pub mod Turning

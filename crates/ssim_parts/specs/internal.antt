@@ -1,2 +1,7 @@
 -- Definitions that private functions alone cite, so nobody has to believe them.
 pub mod Changes
+pub mod Even
+pub mod FateOrder
+pub mod KeptDates
+pub mod Moved
+pub mod Placed

@@ -1,21 +1,42 @@
-//! Parts of a timetable: the flight dates that are chosen, and no others.
+//! Parts of a timetable: the flight dates that are chosen, and no others; and a timetable in the
+//! other time mode.
 //!
 //! - [`Choice`]: some flights, the dates of origin from a first to a last, some stations and some
 //!   aircraft types. It chooses a flight date if the flight is one of them, the date is one of
 //!   them, a leg departs from one of the stations or arrives at it, and a leg is flown with one of
 //!   the aircraft types. Where none is named, all are chosen.
 //! - [`choose`]: leaves of a timetable the chosen flight dates.
+//! - [`convert`]: the timetable in local time of one in UTC, or the other way round. [`FlightFates`]
+//!   says for each flight what becomes of its dates ([`Fate`]): which are kept, and which are left
+//!   and why ([`LeftReason`]). [`left_lines`] prints those that are left.
 //!
 //! A flight date is chosen whole, with all its legs and their segments. The only error is
 //! [`Memory`].
 //!
 //! **Promise.** On each chosen date a flight has the itinerary that it had, and on each other date
-//! none.
+//! none. Converted, a flight has on each date the legs of the least flight date that comes to it,
+//! with moved times and date variations. Each flight date is in the new timetable or is left, and
+//! the first reason why is named.
 #![tactic(auto)]
 
 mod choice;
 mod chosen;
+mod converted;
+mod dated_end;
+mod fate;
+mod left_dates;
+mod leg_end;
+mod moved_columns;
+mod moved_end;
+mod moved_flight;
+mod moved_legs;
+mod moved_parts;
+mod moved_period;
+mod moved_time;
 
 pub use choice::Choice;
 pub use chosen::choose;
+pub use converted::{Converted, FlightFates, convert};
+pub use fate::{Fate, LeftReason};
+pub use left_dates::left_lines;
 pub use ssim_values::Memory;
