@@ -1,6 +1,7 @@
 -- Two answers are alike if their steps are: the first steps, and then the next ones of values that are
 -- the same.
-use Rattle.std.proofs.Common.{◌≡◌, ◌∙◌, inl, inr, List, [], ◌∷◌, ◌++◌, ℕ, Option, Some, None, Ok, Err, sym, ap, ap₂, subst, refl}
+use Rattle.std.proofs.Common.{◌≡◌, ◌∙◌, inl, inr, List, [], ◌∷◌, ◌++◌, ℕ, Option, Some, None, Ok, Err}
+use Rattle.std.proofs.Common.{sym, ap, ap₂, subst, refl}
 use Rattle.ssim_program.specs.Acts.{Act, Print, printed_by, prints}
 use Rattle.ssim_program.specs.Answer.{Answer, Finds, Gives, OneOr, OrElse, Require, ◌>>=◌}
 use Rattle.ssim_program.specs.EqualFiles.{AreAlike, AreOneRefusal, PrintTheSame}
@@ -12,28 +13,36 @@ use Rattle.ssim_program.proofs.Origins.{same_some}
 abbrev pub Equal : {A : Type 0} → A → A → Type 0
 Equal a b = a ≡ b
 
-pub then_alike : {A B : Type 0} (R : A → A → Type 0) (S : B → B → Type 0) (one other : Answer A) (next after : A → Answer B) → AreAlike R one other
+pub then_alike : {A B : Type 0} (R : A → A → Type 0) (S : B → B → Type 0) (one other : Answer A)
+    (next after : A → Answer B) → AreAlike R one other
     → ((a b : A) → R a b → AreAlike S (next a) (after b)) → AreAlike S (one >>= next) (other >>= after)
 then_alike R S one other next after h on = record {
-  values = λ x y (a, is, gives) (b, is_too, gives_too). (on a b (h.values a b is is_too)).values x y gives gives_too;
+  values = λ x y (a, is, gives) (b, is_too, gives_too). (on a b (h.values a b is is_too)).values x y
+      gives gives_too;
   refusals = λ why that p q. by why that p q;
   first = λ x that p q. one_way x that p q;
   second = λ why y p q. other_way why y p q;
 }
   where
-    by : (why that : Refusal) → (one >>= next) (Err why) → (other >>= after) (Err that) → AreOneRefusal why that
+    by : (why that : Refusal) → (one >>= next) (Err why) → (other >>= after) (Err that)
+        → AreOneRefusal why that
     by why that (inl p) (inl q) = h.refusals why that p q
     by why that (inl p) (inr (b, is_too, q)) = inl (h.second why b p is_too)
     by why that (inr (a, is, p)) (inl q) = inr (inl (h.first a that is q))
-    by why that (inr (a, is, p)) (inr (b, is_too, q)) = (on a b (h.values a b is is_too)).refusals why that p q
+    by why that (inr (a, is, p)) (inr (b, is_too, q)) =
+        (on a b (h.values a b is is_too)).refusals why that p q
 
-    one_way : (x : _) (that : Refusal) → (one >>= next) (Ok x) → (other >>= after) (Err that) → IsMemory that
+    one_way : (x : _) (that : Refusal) → (one >>= next) (Ok x) → (other >>= after) (Err that)
+        → IsMemory that
     one_way x that (a, is, gives) (inl q) = h.first a that is q
-    one_way x that (a, is, gives) (inr (b, is_too, q)) = (on a b (h.values a b is is_too)).first x that gives q
+    one_way x that (a, is, gives) (inr (b, is_too, q)) =
+        (on a b (h.values a b is is_too)).first x that gives q
 
-    other_way : (why : Refusal) (y : _) → (one >>= next) (Err why) → (other >>= after) (Ok y) → IsMemory why
+    other_way : (why : Refusal) (y : _) → (one >>= next) (Err why) → (other >>= after) (Ok y)
+        → IsMemory why
     other_way why y (inl p) (b, is_too, gives) = h.second why b p is_too
-    other_way why y (inr (a, is, p)) (b, is_too, gives) = (on a b (h.values a b is is_too)).second why y p gives
+    other_way why y (inr (a, is, p)) (b, is_too, gives) =
+        (on a b (h.values a b is is_too)).second why y p gives
 
 pub gives_alike : {A : Type 0} (x y : A) → x ≡ y → AreAlike Equal (Gives x) (Gives y)
 gives_alike x y same = record {
@@ -43,7 +52,8 @@ gives_alike x y same = record {
   second = λ why b p q. p;
 }
 
-pub finds_alike : {A : Type 0} (P Q : A → Type 0) → ((a b : A) → P a → Q b → a ≡ b) → AreAlike Equal (Finds P) (Finds Q)
+pub finds_alike : {A : Type 0} (P Q : A → Type 0) → ((a b : A) → P a → Q b → a ≡ b)
+    → AreAlike Equal (Finds P) (Finds Q)
 finds_alike P Q same = record {
   values = same;
   refusals = λ why that p q. inl p;
@@ -54,7 +64,8 @@ finds_alike P Q same = record {
 some_none : {A : Type 0} (a : A) → Some a ≡ None → ⊥
 some_none a h = cc
 
-pub or_else_alike : {A : Type 0} (found : Option A) (refusal : Refusal) → AreAlike Equal (OrElse found refusal) (OrElse found refusal)
+pub or_else_alike : {A : Type 0} (found : Option A) (refusal : Refusal)
+    → AreAlike Equal (OrElse found refusal) (OrElse found refusal)
 or_else_alike found refusal = record {
   values = λ a b is are. same_some a b (sym is ∙ are);
   refusals = λ why that p q. inr (inr (inl (p.1 ∙ sym q.1)));
@@ -62,7 +73,8 @@ or_else_alike found refusal = record {
   second = λ why b p q. absurd (some_none b (sym q ∙ p.0));
 }
 
-pub one_or_alike : {A : Type 0} (P : A → Type 0) (refusal : Refusal) → ((a b : A) → P a → P b → a ≡ b) → AreAlike Equal (OneOr P refusal) (OneOr P refusal)
+pub one_or_alike : {A : Type 0} (P : A → Type 0) (refusal : Refusal) → ((a b : A) → P a → P b → a ≡ b)
+    → AreAlike Equal (OneOr P refusal) (OneOr P refusal)
 one_or_alike P refusal same = record {
   values = same;
   refusals = λ why that p q. inr (inr (inl (p.1 ∙ sym q.1)));
@@ -74,7 +86,8 @@ one_or_alike P refusal same = record {
 abbrev pub Nothing : Unit {0} → Unit {0} → Type 0
 Nothing x y = Unit {0}
 
-pub require_alike : (P : Type 0) (refusal : Refusal) → AreAlike Nothing (Require P refusal) (Require P refusal)
+pub require_alike : (P : Type 0) (refusal : Refusal)
+    → AreAlike Nothing (Require P refusal) (Require P refusal)
 require_alike P refusal = record {
   values = λ x y p q. tt;
   refusals = λ why that p q. inr (inr (inl (p.1 ∙ sym q.1)));
@@ -83,10 +96,12 @@ require_alike P refusal = record {
 }
 
 -- equal bytes are printed
-pub prints_alike : (lines others : Answer (List ℕ)) → AreAlike Equal lines others → AreAlike PrintTheSame (prints lines) (prints others)
+pub prints_alike : (lines others : Answer (List ℕ)) → AreAlike Equal lines others
+    → AreAlike PrintTheSame (prints lines) (prints others)
 prints_alike lines others h = record {
   values = λ acts again (bytes, is, all) (more, are, all_too).
-      ap printed_by all ∙ ap (λ (bs : List ℕ). bs ++ []) (h.values bytes more is are) ∙ sym (ap printed_by all_too);
+      ap printed_by all ∙ ap (λ (bs : List ℕ). bs ++ []) (h.values bytes more is are)
+      ∙ sym (ap printed_by all_too);
   refusals = h.refusals;
   first = λ acts that (bytes, is, all) q. h.first bytes that is q;
   second = λ why acts p (bytes, is, all). h.second why bytes p is;

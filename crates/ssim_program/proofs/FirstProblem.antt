@@ -98,7 +98,8 @@ head_is : (x y : ℕ × List ℕ) (xs ys : List (ℕ × List ℕ)) → x ∷ xs 
 head_is x y xs ys is = cc
 
 -- the fault of the first block, if it spells no record
-pub faulty_has : (m : ℕ) (b : List ℕ) (left : List (ℕ × List ℕ)) (number : ℕ) (fault : RecordFault) → IsFaulty ((m, b) ∷ left) number fault → fault_of m b ≡ Some fault
+pub faulty_has : (m : ℕ) (b : List ℕ) (left : List (ℕ × List ℕ)) (number : ℕ) (fault : RecordFault)
+    → IsFaulty ((m, b) ∷ left) number fault → fault_of m b ≡ Some fault
 faulty_has m b left number fault (block, later, is, faulty) =
     let pair = head_is (m, b) (number, block) left later is in
     ap (λ (x : ℕ × List ℕ). fault_of x.0 x.1) pair ∙ faulty
@@ -208,7 +209,8 @@ abbrev pub fault_in : Outcome → Option BaseFault
 fault_in (Ok base) = None
 fault_in (Err fault) = Some fault
 
-pub fault_is : (o : Option BaseFault) (base : List Record × List Note) → fault_in (unless_refused o base) ≡ o
+pub fault_is : (o : Option BaseFault) (base : List Record × List Note)
+    → fault_in (unless_refused o base) ≡ o
 fault_is None base = refl
 fault_is (Some fault) base = refl
 

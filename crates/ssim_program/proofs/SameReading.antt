@@ -101,7 +101,8 @@ module _ (files others : Files) (name another : Text) (same : IsSameFile files n
           → AreAlike SameDesk (desk_of_file mine) (desk_of_file theirs)
       desk_of_alike mine theirs (equal, within) = record {
         values = λ desk other is are. no_two theirs desk.base other.base desk.held other.held
-            (omega (arith, within)) (subst (λ (bs : List ℕ). IsDeskFile bs desk.base desk.held) equal is)
+            (omega (arith, within))
+            (subst (λ (bs : List ℕ). IsDeskFile bs desk.base desk.held) equal is)
             are;
         refusals = λ why that p q. inr (inr (inr (inr ((p.1, p.2), (q.1, q.2)))));
         first = λ desk that is q. absurd
@@ -167,7 +168,8 @@ module _ (files others : Files) (name another : Text) (same : IsSameFile files n
           let one : None ≡ Some fault =
           one_outcome frames bytes (Ok set) (Err fault) here.1 here.0 there.0 tt of in absurd cc
 
-      set_first : (set : List Record × List Note) (that : Refusal) → ReadsFile (Some files) name (Ok set)
+      set_first : (set : List Record × List Note) (that : Refusal)
+          → ReadsFile (Some files) name (Ok set)
           → RefusesFile (Some others) another that → IsMemory that
       set_first set that is (inl q) = not_loaded_too that (read_here (Ok set) is).1 q
       set_first set that is (inr (fault, are, of, read)) = absurd (not_there set fault of is read)
@@ -222,7 +224,8 @@ module _ (files others : Files) (name another : Text) (same : IsSameFile files n
 
         reading_first : (desk : DeskSeen) (that : Refusal) → ReadsTimetable (Some files) name desk
             → RefusesReading (Some others) another that → IsMemory that
-        reading_first desk that (inl (begins, is)) (inl q) = not_loaded_too that (desk_loaded desk is) q
+        reading_first desk that (inl (begins, is)) (inl q) =
+            not_loaded_too that (desk_loaded desk is) q
         reading_first desk that (inl (begins, is)) (inr (begins_too, q)) =
             (desk_alike no_two).first desk that is q
         reading_first desk that (inr (begins, (records, notes, read, base, held))) (inl q) =
@@ -267,7 +270,8 @@ module _ (files others : Files) (name another : Text) (same : IsSameFile files n
               → RefusesAs refusal_of (Some others) another that → IsMemory that
           first desk that is (inl q) = reading_first desk that is q
           first desk that (inl (begins, is)) (inr (fault, (begins_too, of, read), are)) =
-              absurd (two_kinds (sym (kind_here kind.Desk begins) ∙ kind_there kind.DataSet begins_too))
+              absurd (two_kinds (sym (kind_here kind.Desk begins)
+              ∙ kind_there kind.DataSet begins_too))
           first desk that (inr (begins, (records, notes, is, base, held)))
               (inr (fault, (begins_too, of, read), are)) =
               absurd (not_there (records, notes) fault of is read)
@@ -276,7 +280,8 @@ module _ (files others : Files) (name another : Text) (same : IsSameFile files n
               → ReadsTimetable (Some others) another other → IsMemory why
           second why other (inl p) are = reading_second why other p are
           second why other (inr (fault, (begins, of, read), is)) (inl (begins_too, are)) =
-              absurd (two_kinds (sym (kind_there kind.Desk begins_too) ∙ kind_here kind.DataSet begins))
+              absurd (two_kinds (sym (kind_there kind.Desk begins_too)
+              ∙ kind_here kind.DataSet begins))
           second why other (inr (fault, (begins, of, read), is))
               (inr (begins_too, (records, notes, are, base, held))) =
               absurd (not_here (records, notes) fault of read are)
@@ -288,11 +293,13 @@ module _ (files others : Files) (name another : Text) (same : IsSameFile files n
           faults why that (inl (inl p)) (inr (fault, (begins_too, of, read), are)) =
               inl (not_loaded why (read_there (Err fault) read).1 p)
           faults why that (inl (inr (begins, p))) (inr (fault, (begins_too, of, read), are)) =
-              absurd (two_kinds (sym (kind_here kind.Desk begins) ∙ kind_there kind.DataSet begins_too))
+              absurd (two_kinds (sym (kind_here kind.Desk begins)
+              ∙ kind_there kind.DataSet begins_too))
           faults why that (inr (fault, (begins, of, read), is)) (inl (inl q)) =
               inr (inl (not_loaded_too that (read_here (Err fault) read).1 q))
           faults why that (inr (fault, (begins, of, read), is)) (inl (inr (begins_too, q))) =
-              absurd (two_kinds (sym (kind_there kind.Desk begins_too) ∙ kind_here kind.DataSet begins))
+              absurd (two_kinds (sym (kind_there kind.Desk begins_too)
+              ∙ kind_here kind.DataSet begins))
           faults why that (inr (fault, (begins, of, read), is))
               (inr (other, (begins_too, of_too, read_too), are)) =
               inr (inr (inl (is ∙ ap refusal_of (one_fault fault other of read of_too read_too)
@@ -307,7 +314,8 @@ module _ (files others : Files) (name another : Text) (same : IsSameFile files n
           second = second refused.DataSet;
         }
 
-        pub shown_alike : AreAlike SameDesk (shown_in (Some files) name) (shown_in (Some others) another)
+        pub shown_alike : AreAlike SameDesk (shown_in (Some files) name)
+            (shown_in (Some others) another)
         shown_alike = record {
           values = one_timetable;
           refusals = faults no_desk_file;
@@ -331,7 +339,8 @@ module _ (files others : Files) (name another : Text) (same : IsSameFile files n
           one bytes p q here.1 there.1;
       refusals = neither_loaded;
       first = λ p that (_, (mine, at, left), found) q.
-          not_loaded_too that (subst (λ (l : Option (List ℕ)). HasProblems file_limit l p) (left ∙ sym at
+          not_loaded_too that (subst (λ (l : Option (List ℕ)). HasProblems file_limit l p)
+          (left ∙ sym at
           ∙ same.1) found).0 q;
       second = λ why q p (_, (theirs, at, left), found).
           not_loaded why (subst (λ (l : Option (List ℕ)). HasProblems file_limit l q) (left ∙ sym at

@@ -6,9 +6,11 @@ use Rattle.ssim_program.proofs.explain.on_refusal.Goals as goal
 pub returns : goal.returns
 returns c = (
   c.in_ok-words.words.items,
-  c.in_ok-extend_from_slice.ensures.items ∙ ap₂ (λ (x y : List ℕ). x ++ y) c.in_ok-text.ensures c.deref.ensures.value,
+  c.in_ok-extend_from_slice.ensures.items
+      ∙ ap₂ (λ (x y : List ℕ). x ++ y) c.in_ok-text.ensures c.deref.ensures.value,
   λ known. (
     c.args.place.now,
-    subst (λ (name : List ℕ). Explains name c.args.place.now c.in_ok-words.words.items) c.name.ensures (c.in_ok-words.ensures.words (ap is_refusal c.number.ensures ∙ known)),
+    subst (λ (name : List ℕ). Explains name c.args.place.now c.in_ok-words.words.items) c.name.ensures
+        (c.in_ok-words.ensures.words (ap is_refusal c.number.ensures ∙ known)),
   ),
 )

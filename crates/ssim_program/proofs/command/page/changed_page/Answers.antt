@@ -7,4 +7,13 @@ pub returns-in_err-compare : goal.returns-in_err-compare
 returns-in_err-compare c before has =
     let fault = c.in_err-compare.field-0.0 in
     let is : c.from_residual.result ≡ Err (refused.Publication fault) = search rules in
-    rw is (inr (c.args.old.carrier, has.has_carrier, inr (c.carrier_of-carrier.result, c.carrier_of-carrier.ensures, inl (fault, c.in_err-compare.ensures.err, refl))))
+    rw is (inr (
+      c.args.old.carrier,
+      has.has_carrier,
+      inr (
+        c.carrier_of-carrier.result,
+        c.carrier_of-carrier.ensures,
+        inl
+            (fault, c.in_err-compare.ensures.err, refl),
+      ),
+    ))

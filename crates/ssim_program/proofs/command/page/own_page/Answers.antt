@@ -12,5 +12,9 @@ pub returns : goal.returns
 returns c =
     let before = days_of c.args.desk.base.records in
     let is : c.in_ok-before.before.items ≡ divided_flights before = c.in_ok-before.ensures
-    ∙ divided_flights_agree (days_in c.in_ok-of.field-0) before (λ g is_flight. c.in_ok-of.ensures.days g is_flight ∙ ap (λ (b : BaseSeen). days_of b.records g) c.base.ensures) in
-    if_ok c.desk_page.result (λ page made. (c.carrier_of-carrier.result, c.carrier_of-carrier.ensures, made)) (c.desk_page.ensures before is)
+    ∙ divided_flights_agree (days_in c.in_ok-of.field-0) before
+    (λ g is_flight. c.in_ok-of.ensures.days g is_flight
+    ∙ ap (λ (b : BaseSeen). days_of b.records g) c.base.ensures) in
+    if_ok c.desk_page.result
+    (λ page made. (c.carrier_of-carrier.result, c.carrier_of-carrier.ensures, made))
+    (c.desk_page.ensures before is)

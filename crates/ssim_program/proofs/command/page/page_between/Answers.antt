@@ -9,7 +9,9 @@ use Rattle.ssim_command_line.specs.Line.{Text}
 use Rattle.ssim_program.specs.declared.refusal.Refusal.{Refusal}
 use Rattle.ssim_program.proofs.command.page.page_between.Goals as goal
 
-both : {A : Type 0} (files : Option Files) (from to : Text) (old new : DeskSeen) (r : Result (Vec ℕ A) Refusal) → ReadsTimetable files from old → ReadsTimetable files to new → Answers (changed_page old new) r → Answers (page files (Some from) to) r
+both : {A : Type 0} (files : Option Files) (from to : Text) (old new : DeskSeen)
+    (r : Result (Vec ℕ A) Refusal) → ReadsTimetable files from old → ReadsTimetable files to new
+    → Answers (changed_page old new) r → Answers (page files (Some from) to) r
 both files from to old new (Ok lines) mine theirs changed = (old, mine, (new, theirs, changed))
 both files from to old new (Err why) mine theirs changed = inr (old, mine, inr (new, theirs, changed))
 
@@ -22,10 +24,18 @@ pub returns-in_err-desk-clause-answer : goal.returns-in_err-desk-clause-answer
 returns-in_err-desk-clause-answer g c =
     let why = c.in_err-desk.field-0.0 in let read = c.in_ok-old.ensures.read in
     let is : c.from_residual-in_err-desk.result ≡ Err why = search rules in
-    rw is (inr (read.0, read.1, inl (subst (λ (f : Option Files). RefusesTimetable f c.args.file.now why) c.open_flights.ensures.same c.in_err-desk.ensures.refused)))
+    rw is (inr (
+      read.0,
+      read.1,
+      inl
+          (subst (λ (f : Option Files). RefusesTimetable f c.args.file.now why)
+          c.open_flights.ensures.same c.in_err-desk.ensures.refused),
+    ))
 
 pub returns-clause-answer : goal.returns-clause-answer
 returns-clause-answer g c =
     let desk = c.in_ok-desk.desk in let read = c.in_ok-old.ensures.read in
-    both (g.S.Store.files c.args.store.now) c.args.from.now c.args.file.now read.0 desk c.changed_page.result read.1
-    (subst (λ (f : Option Files). ReadsTimetable f c.args.file.now desk) c.open_flights.ensures.same c.in_ok-desk.ensures.read) (c.changed_page.ensures read.0 read.2)
+    both (g.S.Store.files c.args.store.now) c.args.from.now c.args.file.now read.0 desk
+    c.changed_page.result read.1
+    (subst (λ (f : Option Files). ReadsTimetable f c.args.file.now desk) c.open_flights.ensures.same
+    c.in_ok-desk.ensures.read) (c.changed_page.ensures read.0 read.2)

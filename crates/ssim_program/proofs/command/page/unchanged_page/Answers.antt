@@ -15,10 +15,17 @@ pub returns : goal.returns
 returns c =
     let desk = c.args.desk in
     let before = days_of desk.base.records in
-    let flights_are : c.deref.result.now ≡ divided_flights (days_of_desk desk) = c.deref.ensures.value ∙ c.in_ok-flights.ensures in
-    let same : days_of_desk desk ≡ before = ap (λ (es : List Entry). days_of_desk (record { base = desk.base; held = es; applied = desk.applied })) c.requires in
-    let none : differing.differences before (days_of_desk desk) ≡ [] = ap (differing.differences before) same ∙ (none_differ before before).1 (λ flight n is within. refl) in
-    let silent : message_articles desk.held (finding_lines desk) ≡ [] = ap (λ (es : List Entry). message_articles es (finding_lines desk)) c.requires in
+    let flights_are : c.deref.result.now ≡ divided_flights (days_of_desk desk) =
+    c.deref.ensures.value ∙ c.in_ok-flights.ensures in
+    let same : days_of_desk desk ≡ before =
+    ap (λ (es : List Entry). days_of_desk
+    (record { base = desk.base; held = es; applied = desk.applied })) c.requires in
+    let none : differing.differences before (days_of_desk desk) ≡ [] =
+    ap (differing.differences before) same
+    ∙ (none_differ before before).1 (λ flight n is within. refl) in
+    let silent : message_articles desk.held (finding_lines desk) ≡ [] =
+    ap (λ (es : List Entry). message_articles es (finding_lines desk)) c.requires in
     if_ok c.page_of.result
-    (λ page is. is ∙ (λ i. whole_page (c.heading_of.ensures i) (flights_are i) (sym none i) (sym silent i)))
+    (λ page is. is ∙ (λ i. whole_page (c.heading_of.ensures i) (flights_are i) (sym none i)
+    (sym silent i)))
     c.page_of.ensures

@@ -5,4 +5,7 @@ use Rattle.std.specs.List.{starts_with}
 use Rattle.ssim_program.proofs.explain.foreign.is_markup.Goals as goal
 
 pub returns : goal.returns
-returns c = c.starts_with.ensures.value ∙ ap (λ (left : List ℕ). starts_with nat_eq left (60 ∷ [])) (trim_ascii_start_is _ _ c.trim_ascii_start.ensures.value)
+returns c =
+    c.starts_with.ensures.value
+    ∙ ap (λ (left : List ℕ). starts_with nat_eq left (60 ∷ []))
+    (trim_ascii_start_is _ _ c.trim_ascii_start.ensures.value)

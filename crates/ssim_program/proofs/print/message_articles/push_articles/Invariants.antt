@@ -5,4 +5,5 @@ use Rattle.ssim_program.proofs.print.message_articles.push_articles.Given as goa
 
 abbrev pub invariant-loop-message : goal.invariant-loop-message
 invariant-loop-message l =
-    l.articles.items ++ message_articles (drop l.message-index l.held) l.left ≡ l.initial.articles.items ++ message_articles l.held l.findings
+    l.articles.items ++ message_articles (drop l.message-index l.held) l.left ≡
+    l.initial.articles.items ++ message_articles l.held l.findings
