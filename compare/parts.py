@@ -135,8 +135,8 @@ def selected(rng, room, table, chosen, name="FILE"):
     return room("select", *before, name, *after)
 
 
-def of_words(rng, room, table):
-    """What is compared of words some of which are invalid."""
+def of_words(rng, room, *command):
+    """What is compared of the words of a command that takes choices, some of which are invalid."""
     wrong = {kind for kind in ORDER if rng.random() < 0.3} or {"flight"}
     flights = ["Z7A"] * ("flight" in wrong) + ["XX123"] * ("airline" in wrong) + ["101"]
     rng.shuffle(flights)
@@ -152,7 +152,7 @@ def of_words(rng, room, table):
         wrong.discard("turned")
     fault = next((REFUSALS[kind] for kind in ORDER if kind in wrong), None)
     room.counts[f"words: {fault}"] += 1
-    yield " ".join(words), room("select", *words, "FILE", *flights), Answer(1, b"", f"refused {fault}\n")
+    yield " ".join([*command, *words]), room(*command, *words, "FILE", *flights), Answer(1, b"", f"refused {fault}\n")
 
 
 def of_laws(rng, room, table, whole):
@@ -183,8 +183,7 @@ def of_laws(rng, room, table, whole):
 
 def compared(rng, room, kind):
     if kind == "words":
-        table = None
-        yield from of_words(rng, room, table)
+        yield from of_words(rng, room, "select")
         return
     whole = room.exported("FILE")
     if whole is None:

@@ -32,6 +32,9 @@ COMPLETED = [
     ("ssimdesk select --sta", "--station"),
     ("ssimdesk select --from 1jul27 --station HAM a.ssim Z710", "Z7101 Z7102 | Z7111 FDH"),
     (r"ssimdesk calendar a\ season.ssim Z734", "Z7341"),
+    ("ssimdesk calendar --air", "--aircraft"),
+    ("ssimdesk calendar --to 1jul27 a.ssim Z7101 Z734", "Z7341 Z7342 | FDH"),
+    ("ssimdesk list --aircraft 320 a.ssim Z710", "Z7101 Z7102 | Z7111 FDH"),
     ("ssimdesk board a.ssim H", "HAM | FDH Z7101"),
     ("ssimdesk board a.ssim HAM a", "| season.ssim"),
 ]

@@ -1,18 +1,21 @@
 -- Lines with options, computed: which command the words name.
 use Rattle.std.proofs.Common.{true, false, refl, List, [], ◌∷◌, Some, None, codes}
 use Rattle.clap.proofs.OnLiterals.{clap_on_literals}
-use Rattle.ssim_command_line.specs.Line.{Listing, Receive, Select}
+use Rattle.ssim_command_line.specs.Line.{Calendar, ChoiceTexts, Listing, Receive, Select}
 use Rattle.ssim_command_line.specs.Usage.{Names}
+
+abbrev all_dates : ChoiceTexts
+all_dates = record { from = None; to = None; stations = []; aircraft = [] }
 
 -- `list --csv summer.ssim`
 as_csv : Names (codes "ssimdesk" ∷ codes "list" ∷ codes "--csv" ∷ codes "summer.ssim" ∷ [])
-    (Listing (record { csv = true; dates = false }) (codes "summer.ssim") [])
+    (Listing (record { csv = true; dates = false }) all_dates (codes "summer.ssim") [])
 unfolding clap_on_literals
 as_csv = record { right = refl; name = codes "list"; rows = _; entered = refl; read = refl }
 
 -- `list summer.ssim Z7341 --dates`: the option last
 by_date : Names (codes "ssimdesk" ∷ codes "list" ∷ codes "summer.ssim" ∷ codes "Z7341" ∷ codes "--dates" ∷ [])
-    (Listing (record { csv = false; dates = true }) (codes "summer.ssim") (codes "Z7341" ∷ []))
+    (Listing (record { csv = false; dates = true }) all_dates (codes "summer.ssim") (codes "Z7341" ∷ []))
 unfolding clap_on_literals
 by_date = record { right = refl; name = codes "list"; rows = _; entered = refl; read = refl }
 
@@ -34,3 +37,16 @@ two_stations : Names (codes "ssimdesk" ∷ codes "select" ∷ codes "--station" 
     (codes "fdh.desk") [])
 unfolding clap_on_literals
 two_stations = record { right = refl; name = codes "select"; rows = _; entered = refl; read = refl }
+
+-- `calendar --from 1jul27 fdh.desk 341 342`: two flights from a date on
+two_flights : Names (codes "ssimdesk" ∷ codes "calendar" ∷ codes "--from" ∷ codes "1jul27"
+    ∷ codes "fdh.desk" ∷ codes "341" ∷ codes "342" ∷ [])
+    (Calendar (record {
+      from = Some (codes "1jul27");
+      to = None;
+      stations = [];
+      aircraft = [];
+    })
+    (codes "fdh.desk") (codes "341" ∷ codes "342" ∷ []))
+unfolding clap_on_literals
+two_flights = record { right = refl; name = codes "calendar"; rows = _; entered = refl; read = refl }

@@ -8,7 +8,7 @@ use Rattle.clap.specs.Walk.{Row, Rule, Walk, first_of, nothing_held, positional,
 use Rattle.clap.specs.declared.parser.matches.ValueSource.TheVariants.{CommandLine}
 use Rattle.clap.proofs.OnLiterals.{clap_on_literals}
 use Rattle.ssim_command_line.specs.Line.{Command, Line, Text, any_texts, command, four, four_values}
-use Rattle.ssim_command_line.specs.Line.{one, one_and_texts, one_or_two, one_or_two_values, one_value, three}
+use Rattle.ssim_command_line.specs.Line.{one, one_and_several, one_and_texts, one_or_two, one_or_two_values, one_value, three}
 use Rattle.ssim_command_line.specs.Line.{three_values, two, two_and_texts}
 use Rattle.ssim_command_line.specs.Line.{choice_of, choice_words, flag, form_of, optional, several_texts}
 use Rattle.ssim_command_line.specs.Line.{two_values, values_in}
@@ -163,6 +163,14 @@ texts_reader name words make r [] e = no_line e
 texts_reader name words make r (a ∷ []) e = (r a).0
 texts_reader name words make r (a ∷ t ∷ rest) e = taken (r a).1 t rest
 
+some_reader : (name : Text) (words : List Rule) (make : List Row → Text → List Text → Line)
+    → (let c = by name words (λ rows. one_and_several (make rows)) in
+    (a : Text) → TakesTexts c (a ∷ []) (λ texts. Some (make [] a texts)))
+    → IsReader (by name words (λ rows. one_and_several (make rows)))
+some_reader name words make r [] e = no_line e
+some_reader name words make r (a ∷ []) e = no_line e
+some_reader name words make r (a ∷ t ∷ rest) e = taken (r a) t rest
+
 several_reader : (name : Text) (words : List Rule) (make : List Row → Text → Text → List Text → Line)
     → (let c = by name words (λ rows. two_and_texts (make rows)) in
     (a b : Text) → TakesTexts c (a ∷ b ∷ []) (λ texts. Some (make [] a b texts)))
@@ -206,8 +214,12 @@ abbrev pub texts_row : Command
 texts_row = command (codes "texts") (one_value ++ any_texts ∷ []) (one_and_texts Texts)
 
 abbrev pub list_row : Command
-list_row = by (codes "list") (one_value ++ any_texts ∷ flag (codes "csv") ∷ flag (codes "dates") ∷ [])
-    (λ rows. one_and_texts (Listing (form_of rows)))
+list_row = by (codes "list") (one_value ++ any_texts ∷ flag (codes "csv") ∷ flag (codes "dates") ∷ choice_words)
+    (λ rows. one_and_texts (Listing (form_of rows) (choice_of rows)))
+
+abbrev pub calendar_row : Command
+calendar_row = by (codes "calendar") (one_value ++ several_texts ∷ choice_words)
+    (λ rows. one_and_several (Calendar (choice_of rows)))
 
 abbrev pub select_row : Command
 select_row = by (codes "select") (one_value ++ any_texts ∷ choice_words)
@@ -242,8 +254,13 @@ texts_read_by = texts_reader texts_row.name texts_row.words (λ rows. Texts)
 
 pub list_read : IsReader list_row
 unfolding clap_on_literals
-list_read = texts_reader list_row.name list_row.words (λ rows. Listing (form_of rows))
+list_read = texts_reader list_row.name list_row.words (λ rows. Listing (form_of rows) (choice_of rows))
     (λ a. (refl, record { enter = λ t rest. refl; first = λ t u. refl; later = λ x seen t u. refl }))
+
+pub calendar_read : IsReader calendar_row
+unfolding clap_on_literals
+calendar_read = some_reader calendar_row.name calendar_row.words (λ rows. Calendar (choice_of rows))
+    (λ a. record { enter = λ t rest. refl; first = λ t u. refl; later = λ x seen t u. refl })
 
 pub select_read : IsReader select_row
 unfolding clap_on_literals
@@ -282,7 +299,7 @@ readers =
     ∷ with_three (codes "history") History
     ∷ record { row = list_row; reads = list_read }
     ∷ with_three (codes "board") Board
-    ∷ with_two (codes "calendar") Calendar
+    ∷ record { row = calendar_row; reads = calendar_read }
     ∷ with_two (codes "diff") Diff
     ∷ record { row = command (codes "publish") four_values (four Publish); reads = four_plain (codes "publish") Publish }
     ∷ record { row = page_row; reads = page_read }

@@ -38,8 +38,8 @@ pub data Line : Type 0 where
   Show : (file flight date : Text) → Line
   History : (file flight date : Text) → Line
   Board : (file station date : Text) → Line
-  Listing : (form : ListForm) (file : Text) (flights : List Text) → Line
-  Calendar : (file flight : Text) → Line
+  Listing : (form : ListForm) (choice : ChoiceTexts) (file : Text) (flights : List Text) → Line
+  Calendar : (choice : ChoiceTexts) (file : Text) (flights : List Text) → Line
   Page : (from : Option Text) (file : Text) → Line
   Diff : (from to : Text) → Line
   Publish : (from to reference out : Text) → Line
@@ -75,8 +75,10 @@ line_of (request.Withdraw desk out references) =
 line_of (request.Show file flight date) = Show file.now flight.now date.now
 line_of (request.History file flight date) = History file.now flight.now date.now
 line_of (request.Board file station date) = Board file.now station.now date.now
-line_of (request.List form file flights) = Listing form file.now (map (λ t. t.now) flights.items)
-line_of (request.Calendar file flight) = Calendar file.now flight.now
+line_of (request.List form choice file flights) =
+    Listing form (choice_line choice) file.now (map (λ t. t.now) flights.items)
+line_of (request.Calendar choice file flights) =
+    Calendar (choice_line choice) file.now (map (λ t. t.now) flights.items)
 line_of (request.Page from file) = Page (option_map (λ f. f.now) from) file.now
 line_of (request.Diff from to) = Diff from.now to.now
 line_of (request.Publish from to reference out) = Publish from.now to.now reference.now out.now
@@ -188,6 +190,10 @@ abbrev pub one_and_texts : (Text → List Text → Line) → List Text → Optio
 one_and_texts make (a ∷ texts) = Some (make a texts)
 one_and_texts make _ = None
 
+abbrev pub one_and_several : (Text → List Text → Line) → List Text → Option Line
+one_and_several make (a ∷ t ∷ texts) = Some (make a (t ∷ texts))
+one_and_several make _ = None
+
 abbrev pub two_and_texts : (Text → Text → List Text → Line) → List Text → Option Line
 two_and_texts make (a ∷ b ∷ t ∷ texts) = Some (make a b (t ∷ texts))
 two_and_texts make _ = None
@@ -225,11 +231,15 @@ commands =
     ∷ command (codes "history") three_values (three History)
     ∷ record {
       name = codes "list";
-      words = one_value ++ any_texts ∷ flag (codes "csv") ∷ flag (codes "dates") ∷ [];
-      make = λ rows. one_and_texts (Listing (form_of rows));
+      words = one_value ++ any_texts ∷ flag (codes "csv") ∷ flag (codes "dates") ∷ choice_words;
+      make = λ rows. one_and_texts (Listing (form_of rows) (choice_of rows));
     }
     ∷ command (codes "board") three_values (three Board)
-    ∷ command (codes "calendar") two_values (two Calendar)
+    ∷ record {
+      name = codes "calendar";
+      words = one_value ++ several_texts ∷ choice_words;
+      make = λ rows. one_and_several (Calendar (choice_of rows));
+    }
     ∷ command (codes "diff") two_values (two Diff)
     ∷ command (codes "publish") four_values (four Publish)
     ∷ command (codes "page") one_or_two_values (one_or_two Page)

@@ -113,16 +113,19 @@ pub enum Request<'a> {
         station: &'a str,
         date: &'a str,
     },
-    /// Print the periods or the dates of the flights of a desk or a data set: of all, or of these.
+    /// Print the periods or the dates of the chosen flight dates of a desk or a data set: of all
+    /// flights, or of these.
     List {
         form: ListForm,
+        choice: ChoiceWords<'a>,
         file: &'a str,
         flights: Vec<&'a str>,
     },
-    /// Print on which dates a flight of a desk or a data set operates.
+    /// Print on which of the chosen dates flights of a desk or a data set operate.
     Calendar {
+        choice: ChoiceWords<'a>,
         file: &'a str,
-        flight: &'a str,
+        flights: Vec<&'a str>,
     },
     /// Print the timetable of a desk or a data set as a page of HTML, with its changes from another
     /// timetable, if one is named.
@@ -209,6 +212,19 @@ macro_rules! request {
             [$($field),+, _, ..] => {
                 request!(($alloc, $inner, $values) $name($($field),+; $texts $($options)*))
             }
+            _ => Ok(None),
+        }
+    };
+    (($alloc:expr, $inner:expr, $values:expr)
+        $name:ident($($field:ident),+; $texts:ident; $form:ident: $by:ident;
+            $options:ident = $of:ident)) => {
+        match $values {
+            [$($field),+, $texts @ ..] => Ok(Some(Request::$name {
+                $($field: *$field,)+
+                $texts: $texts.to_vec($alloc)?,
+                $form: $by($inner),
+                $options: $of($alloc, $inner)?,
+            })),
             _ => Ok(None),
         }
     };

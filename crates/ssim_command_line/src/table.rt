@@ -237,8 +237,9 @@ before. A data set has no messages:
     no flight
 Exit status: 0; 1 if FILE is neither a desk file nor a data set (62), FLIGHT is
 no designator (6), DATE is no date (1), or the airline is another one (41)."
-        "list" [First("FILE"), Any("FLIGHT"), Flag("csv"), Flag("dates")]
-            => List(file; flights; form: form_of)
+        "list" [First("FILE"), Any("FLIGHT"), Flag("csv"), Flag("dates"), Valued("from", "DATE"),
+            Valued("to", "DATE"), Repeated("station", "STATION"), Repeated("aircraft", "TYPE")]
+            => List(file; flights; form: form_of; choice = choice_of)
         "Print the periods of all flights, or of some, and their legs"
         "\
 Example:
@@ -254,8 +255,10 @@ A leg that differs from another leg of the flight with the same line ends in
   ssimdesk list --dates fdh.desk Z7341
 prints a line for each date and leg:
   Z7341 28MAR27 01 HAM 0540 0540 +0200 PMI 0825 0825 +0200 00 J 320
-Exit status: 0; 1 if the file is refused, FLIGHT is no designator (6), or the
-airline is another one (41)."
+With --from, --to, --station or --aircraft it is the list of 'select'.
+Exit status: 0; 1 if the file is refused, a word is no flight (6), station (3),
+aircraft type (25) or date (1), the airline is another one (41), or --from is
+after --to (43)."
         "board" [First("FILE"), Second("STATION"), Third("DATE")] => Board(file, station, date)
         "Print the departures and arrivals at a station on a local date"
         "\
@@ -273,8 +276,10 @@ Times are the aircraft's. A line ends in ' ?' if a date variation is neither a
 digit nor blank, or in UTC mode a UTC variation is blank: both count as 0.
 Exit status: 0, also with 'no flight'; 1 if the file is refused, STATION is no
 station (3), or DATE is no date (1)."
-        "calendar" [First("FILE"), Second("FLIGHT")] => Calendar(file, flight)
-        "Print the dates of a flight as a picture, and where it changes"
+        "calendar" [First("FILE"), Several("FLIGHT"), Valued("from", "DATE"), Valued("to", "DATE"),
+            Repeated("station", "STATION"), Repeated("aircraft", "TYPE")]
+            => Calendar(file; flights+; choice = choice_of)
+        "Print the dates of flights as pictures, and where they change"
         "\
 Example:
   ssimdesk calendar fdh.desk Z7341
@@ -288,8 +293,11 @@ A letter stands for the legs on the date, . for a date without the flight. Then
 it prints for each letter the number of dates and the legs:
   A 129 01 HAM 0540 0540 +0200 PMI 0825 0825 +0200 00 J 320
   B  13 01 HAM 0540 0540 +0200 PMI 0825 0825 +0200 00 J 32N
-Exit status: 0, also if there is no flight; 1 if the file is refused, FLIGHT is
-no designator (6), or the airline is another one (41)."
+Between two flights is an empty line. With --from, --to, --station or --aircraft
+it is the calendar of 'select'.
+Exit status: 0, also if there is no flight; 1 if the file is refused, a word is
+no flight (6), station (3), aircraft type (25) or date (1), the airline is
+another one (41), or --from is after --to (43)."
         "diff" [First("FROM"), Second("TO")] => Diff(from, to)
         "Print on which dates two timetables differ, and how"
         "\
@@ -474,7 +482,7 @@ impl Told {
 const WORDS: &[(Told, &str)] = &[
     (
         Id("csv"),
-        "Print CSV: the names of the columns, and a row for each leg",
+        "Print CSV: a row of names, then a row for each leg",
     ),
     (Id("dates"), "Print each date by itself, and no periods"),
     (Id("from"), "The first date of origin"),

@@ -135,7 +135,8 @@ module _ (mine theirs here there : DeskSeen) (one : SameDesk mine here) (other :
         on r m (inl h) = inl (sym (same_get r) ∙ h)
         on r m (inr c) = inr (sym (same_get_too r) ∙ c.0, same_means m c.1)
 
-        back : (r : Reference) (m : MessageValue) → Holds (state_of here) r m ⊎ IsCarried here there r m
+        back : (r : Reference) (m : MessageValue) → Holds (state_of here) r m
+            ⊎ IsCarried here there r m
             → Holds (state_of mine) r m ⊎ IsCarried mine theirs r m
         back r m (inl h) = inl (same_get r ∙ h)
         back r m (inr c) = inr (same_get_too r ∙ c.0, means_same m c.1)

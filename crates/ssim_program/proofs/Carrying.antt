@@ -355,7 +355,8 @@ module _ (theirs : BaseSeen) (before between : DeskSeen) (e : Entry) where
     holds_after (printed.Held n) c = absurd c
 
   -- under another reference nothing changes
-  pub same_under : (p : PrintedLine) (r : Reference) → Carries theirs before e p between → r ≢ e.reference
+  pub same_under : (p : PrintedLine) (r : Reference) → Carries theirs before e p between
+      → r ≢ e.reference
       → get (map_of between.held) r ≡ get (map_of before.held) r
   same_under (printed.Left q) r c apart = ap (λ (d : DeskSeen). get (map_of d.held) r) c.2
   same_under (printed.Repeated q) r c apart = ap (λ (x : HeldMessages). get x r) c.3

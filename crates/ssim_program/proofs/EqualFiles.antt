@@ -41,13 +41,12 @@ use Rattle.ssim_board.specs.declared.board.Board.{Board as StationBoard}
 use Rattle.ssim_difference.specs.Lines.{difference_lines}
 use Rattle.ssim_outbox.specs.Comparable.{RefusesCarriers}
 use Rattle.ssim_outbox.specs.declared.fault.OutboxFault.{OutboxFault}
-use Rattle.ssim_command_line.specs.Line.{Text, Texts, Withdraw, Show, History, Board, Calendar, Diff}
-use Rattle.ssim_command_line.specs.Line.{Check, Findings, Export, Listing, Page}
+use Rattle.ssim_command_line.specs.Line.{Text, Texts, Withdraw, Show, History, Board, Diff}
+use Rattle.ssim_command_line.specs.Line.{Check, Findings, Export, Page}
 use Rattle.ssim_command_line.specs.Line.{Problems as ProblemsOf, Tidy}
-use Rattle.ssim_command_line.specs.declared.command_line.ListForm.{ListForm}
 use Rattle.ssim_program.specs.Acts.{Act, Print, printed_by, prints}
 use Rattle.ssim_program.specs.Answer.{Answer, Finds, Gives, OneOr, OrElse, Require, ◌>>=◌}
-use Rattle.ssim_program.specs.Answers.{chosen, compared, desk_page}
+use Rattle.ssim_program.specs.Answers.{compared, desk_page}
 use Rattle.ssim_program.specs.Desks.{desk_in, flight_date, other_airline}
 use Rattle.ssim_program.specs.EqualFiles.{AreAlike, AreOneRefusal, DoesTheSame, DoesTheSameOfPairs}
 use Rattle.ssim_program.specs.EqualFiles.{PrintTheSame, PrintsTheSame}
@@ -59,8 +58,6 @@ use Rattle.ssim_program.specs.Messages.{IsOf, flights_in, message_texts, message
 use Rattle.ssim_program.specs.Offices.{IsSameFile}
 use Rattle.ssim_program.specs.Timetables.{HasCarrier, carrier_of, shown_in, timetable_in}
 use Rattle.ssim_program.specs.Withdrawing.{Withdraws}
-use Rattle.ssim_program.specs.print.Calendar.{calendar_lines}
-use Rattle.ssim_program.specs.print.Listing.{printed_list}
 use Rattle.ssim_program.specs.print.PrintedLine.{printed_text}
 use Rattle.ssim_program.specs.print.Refusal.{IsMemory, refusal_number}
 use Rattle.ssim_program.specs.print.Shown.{findings_lines, history_lines, shown_flight}
@@ -386,21 +383,6 @@ board_of_desk station date desk =
     Require (is_station (typed station) ≡ true) (refused.Value value_fault.BadStation) >>= board_dated
     station date desk
 
-abbrev list_of : ListForm → List Text → DeskSeen → Answer (List ℕ)
-list_of form words desk = do
-  flights ← flights_in (airline_of desk.base.records) words
-  Gives (printed_list form (airline_of desk.base.records) (chosen desk flights))
-
--- the calendar of one flight
-abbrev IsCalendar : DeskSeen → List Designator → List ℕ → Type 0
-IsCalendar desk flights lines = (flight : Designator) × (flights ≡ flight ∷ [])
-    × (lines ≡ calendar_lines flight (days_of_desk desk flight.flight))
-
-abbrev calendar_of : Text → DeskSeen → Answer (List ℕ)
-calendar_of word desk = do
-  flights ← flights_in (airline_of desk.base.records) (word ∷ [])
-  Finds (IsCalendar desk flights)
-
 abbrev page_of : DeskSeen → Answer (List ℕ)
 page_of desk = do
   carrier ← carrier_of desk.base.records
@@ -445,21 +427,9 @@ pub records_same : (desk other : DeskSeen) → SameDesk desk other
     → desk.base.records ≡ other.base.records
 records_same desk other one = ap (λ (b : BaseSeen). b.records) one.0
 
-calendar_same : (desk other : DeskSeen) (flights those : List Designator) → SameDesk desk other
-    → flights ≡ those → (lines more : List ℕ) → IsCalendar desk flights lines
-    → IsCalendar other those more → lines ≡ more
-calendar_same desk other flights those one both lines more (flight, first, is) (that, first_too, are) =
-    let designator : flight ≡ that = ap (first_of flight) (sym first ∙ both ∙ first_too) in
-    is ∙ (λ i. calendar_lines (designator i)
-    (days_of_desk (seen (one.0 i) (one.1 i)) (designator i).flight)) ∙ sym are
-  where
-    first_of : Designator → List Designator → Designator
-    first_of none [] = none
-    first_of none (d ∷ ds) = d
-
 module _ (frames : FramesAreOne) (one_base : SameBytesSameBase) (no_two : NoTwoDesks) where
   -- what is made of the timetables of equal files is alike
-  of_timetables : (next : DeskSeen → Answer (List ℕ))
+  pub of_timetables : (next : DeskSeen → Answer (List ℕ))
       → ((desk other : DeskSeen) → SameDesk desk other → AreAlike Equal (next desk) (next other))
       → (files others : Files) (name another : Text) → IsSameFile files name others another
       → AreAlike PrintTheSame (prints (timetable_in (Some files) name >>= next))
@@ -525,31 +495,6 @@ module _ (frames : FramesAreOne) (one_base : SameBytesSameBase) (no_two : NoTwoD
       (λ i. lines_on (typed station) (seen (one.0 i) (one.1 i)) (same_day i)
       (same_carrier i))))))
 
-  pub list_alike : (form : ListForm) (flights : List Text)
-      → DoesTheSame (λ file. Listing form file flights)
-  list_alike form words = of_timetables (list_of form words)
-      (λ desk other one.
-      let lines : DeskSeen → List Designator → List ℕ =
-      λ d fs. printed_list form (airline_of d.base.records) (chosen d fs) in
-      then_alike Equal Equal (flights_in (airline_of desk.base.records) words)
-      (flights_in (airline_of other.base.records) words) (λ flights. Gives (lines desk flights))
-      (λ flights. Gives (lines other flights))
-      (flights_alike (airline_of desk.base.records) (airline_of other.base.records) words
-      (airlines_same desk other one))
-      (λ flights those both. gives_alike (lines desk flights) (lines other those)
-      (λ i. lines (seen (one.0 i) (one.1 i)) (both i))))
-
-  pub calendar_alike : (flight : Text) → DoesTheSame (λ file. Calendar file flight)
-  calendar_alike word = of_timetables (calendar_of word)
-      (λ desk other one. then_alike Equal Equal (flights_in (airline_of desk.base.records) (word ∷ []))
-      (flights_in (airline_of other.base.records) (word ∷ []))
-      (λ flights. Finds (IsCalendar desk flights))
-      (λ flights. Finds (IsCalendar other flights))
-      (flights_alike (airline_of desk.base.records) (airline_of other.base.records) (word ∷ [])
-      (airlines_same desk other one))
-      (λ flights those both. finds_alike (IsCalendar desk flights) (IsCalendar other those)
-      (calendar_same desk other flights those one both)))
-
   pub page_alike : DoesTheSame (Page None)
   page_alike = of_timetables page_of
       (λ desk other one.
@@ -613,52 +558,3 @@ module _ (frames : FramesAreOne) (one_base : SameBytesSameBase) (no_two : NoTwoD
   changed_page_alike =
       pairs_alike changed (λ old first new second one two mine ours theirs others same same_too. λ i.
       changed (seen (one.0 i) (one.1 i)) (seen (two.0 i) (two.1 i)) (same i) (same_too i))
-
--- ---- data sets
-
-module _ (frames : FramesAreOne) (one_base : SameBytesSameBase) where
-  pub tidy_alike : DoesTheSame Tidy
-  tidy_alike files others name another same =
-      then_alike (λ set that. (set.0 ≡ that.0) × (set.1 ≡ that.1)) PrintTheSame
-      (data_set_in (Some files) name) (data_set_in (Some others) another)
-      (λ set. prints (export_in set.0 (days_of set.0)))
-      (λ set. prints (export_in set.0 (days_of set.0)))
-      (data_set_alike files others name another same frames one_base)
-      (λ set that equal. exports_alike set.0 that.0 (days_of set.0) (days_of that.0) equal.0
-      (ap days_of equal.0))
-
-  check_lines : (records : List Record) (notes : List Note) (lines more : List ℕ)
-      → AreLinesOn records notes lines → AreLinesOn records notes more → lines ≡ more
-  check_lines records notes lines more (flights, counted, is) (those, counted_too, are) =
-      is ∙ ap (λ (fs : List FlightNumber). summary_lines (length records) (length fs) notes)
-      (one_count records flights those counted counted_too) ∙ sym are
-
-  pub check_alike : DoesTheSame Check
-  check_alike files others name another same =
-      let mine = data_set_in (Some files) name in
-      let theirs = data_set_in (Some others) another in
-      let next : List Record × List Note → Answer (List ℕ) = λ set. Finds (AreLinesOn set.0 set.1) in
-      prints_alike (mine >>= next) (theirs >>= next)
-      (then_alike (λ set that. (set.0 ≡ that.0) × (set.1 ≡ that.1)) Equal mine theirs next next
-      (data_set_alike files others name another same frames one_base)
-      (λ set that equal. finds_alike (AreLinesOn set.0 set.1) (AreLinesOn that.0 that.1)
-      (λ lines more is are. check_lines that.0 that.1 lines more
-      (subst (λ (ns : List Note). AreLinesOn that.0 ns lines) equal.1
-      (subst (λ (rs : List Record). AreLinesOn rs set.1 lines) equal.0 is)) are)))
-
--- the lines of some problems of so many records
-abbrev lines_of : ℕ → List BaseFault → List ℕ
-lines_of records faults =
-    flat_map problem_line faults ++ line
-    (printed_text (printed_line.ProblemCount records (length faults)))
-
-pub problems_same : SameBytesSameProblems → DoesTheSame ProblemsOf
-problems_same one files others name another same =
-    let mine = problems_in (Some files) name in
-    let theirs = problems_in (Some others) another in
-    let next : Problems → Answer (List ℕ) = λ found. Gives (problem_lines found) in
-    prints_alike (mine >>= next) (theirs >>= next)
-    (then_alike (λ p q. (p.records ≡ q.records) × (p.faults.items ≡ q.faults.items)) Equal mine theirs
-    next next (problems_alike files others name another same one)
-    (λ p q equal. gives_alike (problem_lines p) (problem_lines q)
-    (ap₂ (λ (n : ℕ) (fs : List BaseFault). lines_of n fs) equal.0 equal.1)))

@@ -1,4 +1,5 @@
--- Words make one choice of the flight dates of equal files, and the part of it has one export.
+-- Words make one choice of the flight dates of equal files, and the part of it has one export, one
+-- list and one calendar.
 use Rattle.std.proofs.Common.{◌≡◌, ◌∙◌, ℕ, ◌≤◌, List, Some, map, refl, subst}
 use Rattle.std.specs.Prelude.{All}
 use Rattle.ssim_values.specs.Flight.{FlightNumber}
@@ -18,19 +19,25 @@ use Rattle.ssim_words.specs.Aircraft.{typed_aircraft}
 use Rattle.ssim_words.specs.Flight.{NameEach}
 use Rattle.ssim_words.specs.Several.{each_read}
 use Rattle.ssim_words.specs.Station.{typed_station}
-use Rattle.ssim_command_line.specs.Line.{ChoiceTexts, Select, Text}
+use Rattle.ssim_schedule.specs.FlightPieces.{in_order}
+use Rattle.ssim_command_line.specs.Line.{Calendar, ChoiceTexts, Listing, Select, Text}
+use Rattle.ssim_command_line.specs.declared.command_line.ListForm.{ListForm}
 use Rattle.ssim_program.specs.Acts.{Act, prints}
 use Rattle.ssim_program.specs.Answer.{Answer, Gives, OneOr, OrElse, Require, ◌>>=◌}
+use Rattle.ssim_program.specs.Answers.{listed}
 use Rattle.ssim_program.specs.Choices.{choice_in, dated, turned_dates}
 use Rattle.ssim_program.specs.Desks.{other_airline}
 use Rattle.ssim_program.specs.EqualFiles.{AreAlike, DoesTheSame, PrintTheSame}
 use Rattle.ssim_program.specs.Exports.{export_in}
 use Rattle.ssim_program.specs.Messages.{IsOf}
 use Rattle.ssim_program.specs.Timetables.{timetable_in}
+use Rattle.ssim_program.specs.print.Calendar.{calendars}
+use Rattle.ssim_program.specs.print.Listing.{printed_list}
 use Rattle.ssim_program.specs.declared.refusal.Refusal.TheVariants as refused
 use Rattle.ssim_program.proofs.Alike.{Equal, Nothing, gives_alike, one_or_alike, or_else_alike}
 use Rattle.ssim_program.proofs.Alike.{require_alike, then_alike}
-use Rattle.ssim_program.proofs.EqualFiles.{airlines_same, exports_alike, records_same, seen}
+use Rattle.ssim_program.proofs.EqualFiles.{airlines_same, exports_alike, of_timetables, records_same}
+use Rattle.ssim_program.proofs.EqualFiles.{seen}
 use Rattle.ssim_program.proofs.SameReading.{SameDesk, timetable_alike}
 
 -- a step, and then the next one of its value
@@ -59,8 +66,8 @@ module _ (airline : List ℕ) (words : ChoiceTexts) (flights : List Text) where
   abbrev all_of : List Designator → Answer (Unit {0})
   all_of named = Require (All (IsOf airline) named) other_airline
 
-  abbrev in_order : ℕ → ℕ → Answer (Unit {0})
-  in_order first last = Require (first ≤ last) turned_dates
+  abbrev is_rising : ℕ → ℕ → Answer (Unit {0})
+  is_rising first last = Require (first ≤ last) turned_dates
 
   module _ (named : List Designator) (stations aircraft : List (List ℕ)) where
     abbrev made : ℕ → ℕ → Unit {0} → Answer Choosing
@@ -73,7 +80,7 @@ module _ (airline : List ℕ) (words : ChoiceTexts) (flights : List Text) where
     })
 
     abbrev risen : ℕ → ℕ → Unit {0} → Answer Choosing
-    risen first last here = in_order first last >>= made first last
+    risen first last here = is_rising first last >>= made first last
 
     abbrev of_airline : ℕ → ℕ → Answer Choosing
     of_airline first last = all_of named >>= risen first last
@@ -99,7 +106,7 @@ module _ (airline : List ℕ) (words : ChoiceTexts) (flights : List Text) where
         (risen named stations aircraft first last y)
     risen_alike first last x y =
         let next = made named stations aircraft first last in
-        then_alike Nothing Equal (in_order first last) (in_order first last) next next
+        then_alike Nothing Equal (is_rising first last) (is_rising first last) next next
         (require_alike (first ≤ last) turned_dates) (λ x y both. gives_alike _ _ refl)
 
     airline_alike : (first last : ℕ) → AreAlike Equal (of_airline named stations aircraft first last)
@@ -148,6 +155,36 @@ abbrev selected_of : ChoiceTexts → List Text → DeskSeen → Answer (List Act
 selected_of words flights desk =
     choice_in (airline_of desk.base.records) words flights >>= part_of desk
 
+-- the lines that are made of the chosen part of a desk
+abbrev lines_of : (DeskSeen → Choosing → List ℕ) → ChoiceTexts → List Text → DeskSeen
+    → Answer (List ℕ)
+lines_of lines words flights desk = do
+  choice ← choice_in (airline_of desk.base.records) words flights
+  Gives (lines desk choice)
+
+abbrev listed_lines : ListForm → DeskSeen → Choosing → List ℕ
+listed_lines form desk choice = printed_list form (airline_of desk.base.records)
+    (listed choice.flights (chosen_days choice (days_of_desk desk)))
+
+abbrev calendar_of : DeskSeen → Choosing → List ℕ
+calendar_of desk choice = calendars (airline_of desk.base.records)
+    (chosen_days choice (days_of_desk desk)) (in_order choice.flights)
+
+-- they are alike, if equal desks and equal choices have the same
+lines_alike : (lines : DeskSeen → Choosing → List ℕ)
+    → ((desk other : DeskSeen) (choice that : Choosing) → SameDesk desk other → choice ≡ that
+    → lines desk choice ≡ lines other that)
+    → (words : ChoiceTexts) (flights : List Text) (desk other : DeskSeen) → SameDesk desk other
+    → AreAlike Equal (lines_of lines words flights desk) (lines_of lines words flights other)
+lines_alike lines are words flights desk other one =
+    let mine = airline_of desk.base.records in
+    let theirs = airline_of other.base.records in
+    then_alike Equal Equal (choice_in mine words flights) (choice_in theirs words flights)
+    (λ choice. Gives (lines desk choice)) (λ choice. Gives (lines other choice))
+    (choice_alike mine theirs words flights (airlines_same desk other one))
+    (λ choice that both. gives_alike (lines desk choice) (lines other that)
+    (are desk other choice that one both))
+
 parts_alike : (desk other : DeskSeen) (choice that : Choosing) → SameDesk desk other
     → choice ≡ that → AreAlike PrintTheSame (part_of desk choice) (part_of other that)
 parts_alike desk other choice that one same =
@@ -169,3 +206,19 @@ module _ (frames : FramesAreOne) (one_base : SameBytesSameBase) (no_two : NoTwoD
       (part_of desk) (part_of other)
       (choice_alike mine theirs words flights (airlines_same desk other one))
       (λ choice that both. parts_alike desk other choice that one both))
+
+  pub list_alike : (form : ListForm) (words : ChoiceTexts) (flights : List Text)
+      → DoesTheSame (λ file. Listing form words file flights)
+  list_alike form words flights =
+      of_timetables frames one_base no_two (lines_of (listed_lines form) words flights)
+      (lines_alike (listed_lines form)
+      (λ desk other choice that one both. λ i. listed_lines form (seen (one.0 i) (one.1 i)) (both i))
+      words flights)
+
+  pub calendar_alike : (words : ChoiceTexts) (flights : List Text)
+      → DoesTheSame (λ file. Calendar words file flights)
+  calendar_alike words flights =
+      of_timetables frames one_base no_two (lines_of calendar_of words flights)
+      (lines_alike calendar_of
+      (λ desk other choice that one both. λ i. calendar_of (seen (one.0 i) (one.1 i)) (both i))
+      words flights)

@@ -207,9 +207,9 @@ module _ (old new : Files) (acts done later : List Act) (split : acts ≡ done +
       looks _ old new acts done later split left (ap kept_by are)
   of_line (line.Board file station date) (bytes, is, are) =
       looks _ old new acts done later split left (ap kept_by are)
-  of_line (line.Listing form file flights) (bytes, is, are) =
+  of_line (line.Listing form words file flights) (bytes, is, are) =
       looks _ old new acts done later split left (ap kept_by are)
-  of_line (line.Calendar file flight) (bytes, is, are) =
+  of_line (line.Calendar words file flights) (bytes, is, are) =
       looks _ old new acts done later split left (ap kept_by are)
   of_line (line.Page from file) (bytes, is, are) =
       looks _ old new acts done later split left (ap kept_by are)

@@ -33,9 +33,12 @@ pub mod Alike
 pub mod OneOutcome
 pub mod SameReading
 pub mod EqualFiles
+pub mod EqualDataSets
 pub mod EqualParts
 pub mod CarriedFiles
 pub mod ChoiceSteps
+pub mod ChosenDates
+pub mod BlockLines
 pub mod Verdict
 pub mod FirstProblem
 pub mod Timetables

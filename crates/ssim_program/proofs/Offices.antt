@@ -41,7 +41,6 @@ use Rattle.ssim_program.specs.Withdrawing.{IsNamed}
 use Rattle.ssim_program.proofs.OfficeFiles.{AfterTexts, Holding, IsFounded, IsKept, Messages, Reads}
 use Rattle.ssim_program.proofs.OfficeFiles.{small}
 
-
 module _ (one : OneMessage) (again : CanonicalReadsBack) (one_each : OneReference)
     (no_two : NoTwoDesks) where
   -- a file is read as one desk

@@ -9,7 +9,7 @@ use Rattle.ssim_records.specs.Carrier.{CarrierFields}
 use Rattle.ssim_base.specs.Base.{airline_of}
 use Rattle.ssim_base.specs.SavedBase.{IsBaseRecords}
 use Rattle.ssim_base.specs.Timetable.{Days, days_of, itinerary}
-use Rattle.ssim_schedule.specs.FlightPieces.{Divided, divided_among, divided_flights}
+use Rattle.ssim_schedule.specs.FlightPieces.{Divided, divided_among, divided_flights, in_order}
 use Rattle.ssim_words.specs.Date.{typed_day}
 use Rattle.ssim_words.specs.Typed.{typed}
 use Rattle.ssim_held.specs.Entries.{AreRising, DeskSeen}
@@ -50,7 +50,7 @@ use Rattle.ssim_program.specs.Receiving.{places_in, receipt_lines, received, rec
 use Rattle.ssim_program.specs.Timetables.{carrier_of, shown_in, timetable_in}
 use Rattle.ssim_program.specs.Withdrawing.{withdrawn}
 use Rattle.ssim_program.specs.rehearse.Rehearsal.{RehearsesFiles, RefusesLines}
-use Rattle.ssim_program.specs.print.Calendar.{calendar_lines}
+use Rattle.ssim_program.specs.print.Calendar.{calendars}
 use Rattle.ssim_program.specs.print.Listing.{printed_list}
 use Rattle.ssim_program.specs.print.Page.{message_articles}
 use Rattle.ssim_program.specs.print.Shown.{findings_lines, history_lines, shown_flight}
@@ -199,25 +199,26 @@ board files file station date = do
 
 -- the flights with the pieces of their dates, by number and then by suffix: all that fly on some
 -- date if none is named, or else those that are named, each once
-abbrev pub chosen : DeskSeen → List Designator → List Divided
-chosen desk [] = divided_flights (days_of_desk desk)
-chosen desk (flight ∷ later) =
-    divided_among (map (λ d. d.flight) (flight ∷ later)) (days_of_desk desk)
+abbrev pub listed : List FlightNumber → (FlightNumber → Days) → List Divided
+listed [] days = divided_flights days
+listed (flight ∷ later) days = divided_among (flight ∷ later) days
 
--- the chosen flights in a form
-abbrev pub list : Option Files → ListForm → Text → List Text → Answer (List ℕ)
-list files form file words = do
+-- the chosen part of a timetable in a form
+abbrev pub list : Option Files → ListForm → ChoiceTexts → Text → List Text → Answer (List ℕ)
+list files form words file flights = do
   desk ← timetable_in files file
-  flights ← flights_in (airline_of desk.base.records) words
-  Gives (printed_list form (airline_of desk.base.records) (chosen desk flights))
+  choice ← choice_in (airline_of desk.base.records) words flights
+  Gives (printed_list form (airline_of desk.base.records)
+      (listed choice.flights (chosen_days choice (days_of_desk desk))))
 
--- the calendar of a flight
-abbrev pub calendar : Option Files → Text → Text → Answer (List ℕ)
-calendar files file word = do
+-- the calendars of the flights that are named, by number and then by suffix, each once, of their
+-- chosen dates
+abbrev pub calendar : Option Files → ChoiceTexts → Text → List Text → Answer (List ℕ)
+calendar files words file flights = do
   desk ← timetable_in files file
-  flights ← flights_in (airline_of desk.base.records) (word ∷ [])
-  Finds (λ lines. (flight : Designator) × (flights ≡ flight ∷ [])
-      × (lines ≡ calendar_lines flight (days_of_desk desk flight.flight)))
+  choice ← choice_in (airline_of desk.base.records) words flights
+  Gives (calendars (airline_of desk.base.records) (chosen_days choice (days_of_desk desk))
+      (in_order choice.flights))
 
 -- the airline, the season in columns 11 to 13, and the time mode of a carrier record
 abbrev pub heading_of : CarrierFields → PageHeading
@@ -322,8 +323,8 @@ answers (Texts file flights) files = prints (texts files file flights)
 answers (Show file flight date) files = prints (show files file flight date)
 answers (History file flight date) files = prints (history files file flight date)
 answers (Board file station date) files = prints (board files file station date)
-answers (Listing form file flights) files = prints (list files form file flights)
-answers (Calendar file flight) files = prints (calendar files file flight)
+answers (Listing form words file flights) files = prints (list files form words file flights)
+answers (Calendar words file flights) files = prints (calendar files words file flights)
 answers (Page from file) files = prints (page files from file)
 answers (Diff from to) files = prints (diff files from to)
 answers (Publish from to reference out) files = publish files from to reference out

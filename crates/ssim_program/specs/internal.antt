@@ -9,4 +9,6 @@ pub mod DataSet
 pub mod Rehearse
 pub mod Print
 pub mod Carry
+pub mod Choices
+pub mod SomeFlights
 pub mod Diff

@@ -4,6 +4,7 @@ pub mod Refusal
 pub mod PrintedLine
 pub mod Shown
 pub mod Listing
+pub mod Blocks
 pub mod Calendar
 pub mod Paper
 pub mod Page

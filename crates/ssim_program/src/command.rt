@@ -11,6 +11,7 @@ pub(crate) mod calendar;
 pub(crate) mod carry;
 pub(crate) mod check;
 pub(crate) mod choice;
+pub(crate) mod chosen;
 pub(crate) mod diff;
 pub(crate) mod export;
 pub(crate) mod findings;
@@ -106,12 +107,15 @@ pub(crate) fn make<'r, S: Store>(
         } => lines(board::board(alloc, file, station, date, store)),
         Request::List {
             form,
+            choice,
             file,
             flights,
-        } => lines(list::list(alloc, *form, file, flights, store)),
-        Request::Calendar { file, flight } => {
-            lines(calendar::calendar(alloc, file, flight, store))
-        }
+        } => lines(list::list(alloc, *form, choice, file, flights, store)),
+        Request::Calendar {
+            choice,
+            file,
+            flights,
+        } => lines(calendar::calendar(alloc, choice, file, flights, store)),
         Request::Page { from, file } => lines(page::page(alloc, *from, file, store)),
         Request::Diff { from, to } => lines(diff::diff(alloc, from, to, store)),
         Request::Findings { desk } => lines(findings::findings(alloc, desk, store)),

@@ -97,9 +97,10 @@ pub fn equal_timetables_do_the_same()
     ensures show { (flight date : Text) → DoesTheSame (λ file. Show file flight date) }
     ensures history { (flight date : Text) → DoesTheSame (λ file. History file flight date) }
     ensures board { (station date : Text) → DoesTheSame (λ file. Board file station date) }
-    ensures list { (form : ListForm) (flights : List Text)
-        → DoesTheSame (λ file. Listing form file flights) }
-    ensures calendar { (flight : Text) → DoesTheSame (λ file. Calendar file flight) }
+    ensures list { (form : ListForm) (words : ChoiceTexts) (flights : List Text)
+        → DoesTheSame (λ file. Listing form words file flights) }
+    ensures calendar { (words : ChoiceTexts) (flights : List Text)
+        → DoesTheSame (λ file. Calendar words file flights) }
     ensures page { DoesTheSame (Page None) }
     ensures select { (words : ChoiceTexts) (flights : List Text)
         → DoesTheSame (λ file. Select words file flights) }

@@ -38,6 +38,7 @@ mod print;
 mod program;
 mod refusal;
 mod rehearse;
+mod some_flights;
 mod store;
 mod timetable_file;
 mod word;

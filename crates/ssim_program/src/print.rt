@@ -1,5 +1,6 @@
 //! What is printed: lines, names of files, the line of a refusal, and the printer that takes them.
 
+pub(crate) mod blocks;
 pub(crate) mod fault_line;
 pub(crate) mod finding;
 pub(crate) mod legs;

@@ -1,15 +1,17 @@
--- The calendar of a flight, as it is printed.
+-- The calendars of flights, as they are printed.
 use Rattle.std.specs.Prelude.{ℕ, Bool, List, [], ◌∷◌, ◌++◌, map, take, codes}
 use Rattle.std.specs.List.{list_any}
 use Rattle.ssim_values.specs.Designator.{designator_text}
+use Rattle.ssim_values.specs.Flight.{FlightNumber}
 use Rattle.ssim_values.specs.declared.designator.Designator.{Designator}
 use Rattle.ssim_base.specs.Export.{line, same_itinerary}
-use Rattle.ssim_base.specs.Timetable.{LegValue, Legs}
+use Rattle.ssim_base.specs.Timetable.{Days, LegValue, Legs}
 use Rattle.ssim_calendar.specs.Legend.{legend}
 use Rattle.ssim_calendar.specs.Letters.{cells, different}
 use Rattle.ssim_calendar.specs.Picture.{picture}
 use Rattle.ssim_listing.specs.LegText.{leg_text}
 use Rattle.ssim_listing.specs.Marks.{is_like_one, mark_text}
+use Rattle.ssim_program.specs.print.Blocks.{blocks}
 
 -- whether a leg of one of the itineraries differs from this leg, but has the same line
 abbrev pub is_like_any : List Legs → LegValue → Bool
@@ -43,3 +45,12 @@ drawn_or_none designator (first ∷ later) letters = drawn designator (first ∷
 abbrev pub calendar_lines : Designator → List Legs → List ℕ
 calendar_lines designator days =
     drawn_or_none designator (different same_itinerary [] days) (cells same_itinerary [] days)
+
+-- the calendar of a flight of an airline
+abbrev pub flight_calendar : List ℕ → (FlightNumber → Days) → FlightNumber → List ℕ
+flight_calendar airline days flight =
+    calendar_lines (record { airline = airline; flight = flight }) (days flight)
+
+-- the calendars of flights of an airline, with an empty line between two
+abbrev pub calendars : List ℕ → (FlightNumber → Days) → List FlightNumber → List ℕ
+calendars airline days flights = blocks (map (flight_calendar airline days) flights)

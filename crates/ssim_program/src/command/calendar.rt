@@ -1,44 +1,87 @@
-//! The command `calendar`: the dates of a flight as a picture of weeks, and its itineraries.
+//! The command `calendar`: the dates of flights as pictures of weeks, and their itineraries.
 
 ghost use Rattle.std.specs.Prelude.{◌≡◌, [], ◌∷◌, ◌++◌, ◌≤◌, codes, length, map, IfOk};
 ghost use Rattle.ssim_values.specs.Designator.{designator_text};
+ghost use Rattle.ssim_schedule.specs.clauses.Schedule.{days_in};
+ghost use Rattle.ssim_command_line.specs.Line.{choice_line};
 ghost use Rattle.ssim_base.specs.Export.{line};
 ghost use Rattle.ssim_calendar.specs.clauses.Legend.{texts_of};
 ghost use Rattle.ssim_program.specs.Answers.{calendar};
 ghost use Rattle.ssim_program.specs.internal.Program.{Answers};
 ghost use Rattle.ssim_program.specs.print.Calendar.{calendar_lines, drawn, drawn_or_none};
-ghost use Rattle.ssim_program.specs.print.Calendar.{is_like_any, legend_text, lettered};
+ghost use Rattle.ssim_program.specs.print.Calendar.{flight_calendar, is_like_any, legend_text};
+ghost use Rattle.ssim_program.specs.print.Calendar.{lettered};
 
-use crate::command::named_flights::named_flight;
+use crate::command::choice::choice_in;
+use crate::command::chosen::chosen_schedule;
+use crate::print::blocks::joined;
 use crate::refusal::Refusal;
 use crate::store::Store;
 use crate::timetable_file::open_timetable;
 use ssim_calendar::{push_legend, push_picture};
+use ssim_command_line::ChoiceWords;
 use ssim_listing::{is_like_one, mark_of, push_leg_text};
 use ssim_periods::Periods;
-use ssim_schedule::{Itinerary, PlacedLeg};
-use ssim_values::{Designator, Memory};
+use ssim_schedule::{Itinerary, PlacedLeg, Schedule, flights_in_order};
+use ssim_values::{Airline, Designator, Flight, Memory};
 use std::alloc::Global;
 
 /// The most itineraries of a flight that have a letter of their own.
 const LETTERS: usize = 52;
 
-/// The calendar of a flight of the desk, or of the data set, in a file.
+/// The calendars of flights of the desk, or of the data set, in a file, of their chosen dates.
 pub(crate) fn calendar<S: Store>(
     alloc: Global,
+    words: &ChoiceWords<'_>,
     file: &str,
-    flight: &str,
+    flights: &[&str],
     store: &mut S,
 ) -> Result<Vec<u8>, Refusal>
-    ensures answer { Answers (calendar (S.files store.old) file.now flight.now) result }
+    ensures answer { Answers (calendar (S.files store.old) (choice_line words.now) file.now
+        (map (λ t. t.now) flights.now)) result }
     ensures same { S.files store.new ≡ S.files store.old }
     ensures counted { S.failures store.new ≡ S.failures store.old }
 {
     let desk = open_timetable(alloc, file, store)?;
-    let designator = named_flight(alloc, desk.data_set().airline(), flight)?;
-    let days = desk.days(&designator.flight)?;
-    let lines = lines_of(alloc, designator, &days)?;
+    let airline = desk.data_set().airline();
+    let choice = choice_in(alloc, airline, words, flights)?;
+    let flights = flights_in_order(alloc, &choice.flights)?;
+    let schedule = chosen_schedule(&desk, &choice)?;
+    let calendars = calendars_of(alloc, airline, &schedule, &flights)?;
+    let lines = joined(alloc, &calendars)?;
     Ok(lines)
+}
+
+/// The calendar of each of the flights.
+fn calendars_of(
+    alloc: Global,
+    airline: Airline,
+    schedule: &Schedule,
+    flights: &[Flight],
+) -> Result<Vec<Vec<u8>>, Memory>
+    ensures { IfOk result (λ calendars. map (λ lines. lines.items) calendars.items
+        ≡ map (flight_calendar airline (days_in schedule.now)) flights.now) }
+{
+    let mut calendars = Vec::with_capacity(alloc, flights.len())?;
+    for flight in flights {
+        let calendar = calendar_of(alloc, airline, schedule, *flight)?;
+        calendars.push(calendar)?;
+    }
+    Ok(calendars)
+}
+
+/// The calendar of a flight of the airline.
+fn calendar_of(
+    alloc: Global,
+    airline: Airline,
+    schedule: &Schedule,
+    flight: Flight,
+) -> Result<Vec<u8>, Memory>
+    ensures { IfOk result (λ lines. lines.items
+        ≡ flight_calendar airline (days_in schedule.now) flight) }
+{
+    let days = schedule.days(&flight)?;
+    lines_of(alloc, Designator { airline, flight }, &days)
 }
 
 /// The calendar of a flight by its itinerary on each day.

@@ -1,6 +1,6 @@
 //! The flights that words of the command line name.
 
-ghost use Rattle.std.specs.Prelude.{◌≡◌, ◌⊎◌, [], ◌∷◌, All, Err, IfErr, IfOk, List, Ok, false, map, true};
+ghost use Rattle.std.specs.Prelude.{◌≡◌, ◌⊎◌, All, Err, IfErr, IfOk, List, Ok, false, map, true};
 ghost use Rattle.ssim_values.specs.declared.designator.Designator.{Designator};
 ghost use Rattle.ssim_values.specs.declared.fault.Fault.TheVariants as value_fault;
 ghost use Rattle.ssim_program.specs.Messages.{IsOf, flights_in};
@@ -14,22 +14,6 @@ use ssim_desk::DeskFault;
 use ssim_values::{Airline, Designator, Fault};
 use ssim_words::typed_flights;
 use std::alloc::Global;
-
-/// The flight of the airline that the word names.
-pub(crate) fn named_flight(
-    alloc: Global,
-    airline: Airline,
-    word: &str,
-) -> Result<Designator, Refusal>
-    ensures ok { IfOk result (λ flight. flights_in airline (word.now ∷ []) (Ok (flight ∷ []))) }
-    ensures err { IfErr result (λ why. flights_in airline (word.now ∷ []) (Err why)) }
-{
-    let flights = named_flights(alloc, airline, &[word])?;
-    let Some(flight) = flights.first() else {
-        unreachable!();
-    };
-    Ok(*flight)
-}
 
 /// The flights of the airline that the words name, in their order.
 pub(crate) fn named_flights(

@@ -122,19 +122,25 @@ pub returns-in-List-clause-answer : goal.returns-in-List-clause-answer
 returns-in-List-clause-answer g c = let old = g.S.Store.files c.args.store.now in
     made_of _ _ _ _ _ c.in-List.is
     (lines_of g.S.Hold.Hold.file old
-    (answer.list old c.in-List.form c.in-List.file.now
+    (answer.list old c.in-List.form (choice_line c.in-List.choice) c.in-List.file.now
     (map (λ t. t.now) c.in-List.flights.items)) c.list.result c.lines-in-List.result
     (subst (λ (words : List (Bor (List ℕ))). Answers
-    (answer.list old c.in-List.form c.in-List.file.now (map (λ t. t.now) words))
-    c.list.result) c.deref-in-List.ensures.value c.list.ensures.answer)
+    (answer.list old c.in-List.form (choice_line c.in-List.choice) c.in-List.file.now
+    (map (λ t. t.now) words)) c.list.result) c.deref-in-List.ensures.value
+    c.list.ensures.answer)
     c.lines-in-List.ensures)
 
 pub returns-in-Calendar-clause-answer : goal.returns-in-Calendar-clause-answer
 returns-in-Calendar-clause-answer g c = let old = g.S.Store.files c.args.store.now in
     made_of _ _ _ _ _ c.in-Calendar.is
     (lines_of g.S.Hold.Hold.file old
-    (answer.calendar old c.in-Calendar.file.now c.in-Calendar.flight.now) c.calendar.result
-    c.lines-in-Calendar.result c.calendar.ensures.answer c.lines-in-Calendar.ensures)
+    (answer.calendar old (choice_line c.in-Calendar.choice) c.in-Calendar.file.now
+    (map (λ t. t.now) c.in-Calendar.flights.items)) c.calendar.result c.lines-in-Calendar.result
+    (subst (λ (words : List (Bor (List ℕ))). Answers
+    (answer.calendar old (choice_line c.in-Calendar.choice) c.in-Calendar.file.now
+    (map (λ t. t.now) words)) c.calendar.result) c.deref-in-Calendar.ensures.value
+    c.calendar.ensures.answer)
+    c.lines-in-Calendar.ensures)
 
 pub returns-in-Page-clause-answer : goal.returns-in-Page-clause-answer
 returns-in-Page-clause-answer g c = let old = g.S.Store.files c.args.store.now in

@@ -1,4 +1,4 @@
-use Rattle.ssim_program.proofs.EqualFiles.{check_alike, problems_same, tidy_alike}
+use Rattle.ssim_program.proofs.EqualDataSets.{check_alike, problems_same, tidy_alike}
 use Rattle.ssim_program.proofs.laws.equal_data_sets_do_the_same.Goals as goal
 
 pub returns : goal.returns

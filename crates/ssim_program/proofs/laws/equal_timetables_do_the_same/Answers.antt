@@ -1,6 +1,6 @@
-use Rattle.ssim_program.proofs.EqualFiles.{board_alike, calendar_alike, changed_page_alike, diff_alike}
-use Rattle.ssim_program.proofs.EqualFiles.{history_alike, list_alike, page_alike, show_alike}
-use Rattle.ssim_program.proofs.EqualParts.{select_alike}
+use Rattle.ssim_program.proofs.EqualFiles.{board_alike, changed_page_alike, diff_alike}
+use Rattle.ssim_program.proofs.EqualFiles.{history_alike, page_alike, show_alike}
+use Rattle.ssim_program.proofs.EqualParts.{calendar_alike, list_alike, select_alike}
 use Rattle.ssim_program.proofs.laws.equal_timetables_do_the_same.Goals as goal
 
 pub returns : goal.returns

@@ -1,0 +1,77 @@
+"""`list` and `calendar` with a choice of flight dates, beside a plain list of flight dates and beside `select`.
+
+Each case has a data set or a desk, as in `parts`, and choices of its flights, dates, stations and aircraft types. Of the dates that `tidy` or
+`export` writes (flight_dates.py) each is taken or left by itself. `list`, in each of its forms, and `calendar` have to print what follows from
+those that are taken; and what they print of the data set that `select` writes with the same choice, byte for byte. In a case of `words` some
+words are invalid, and the refusal is that of the first of them by kind.
+"""
+import copy
+
+import parts
+from flight_dates import Timetable, calendar, listed, listed_dates, rows
+from room import said
+
+KINDS = ["choice", "choice", "choice", "words"]
+FORMS = {(): listed, ("--dates",): listed_dates, ("--csv",): rows,
+         ("--csv", "--dates"): lambda table, flights=None: rows(table, flights, True)}
+COMMANDS = [("list",), ("list", "--csv"), ("list", "--dates"), ("calendar",)]
+
+make = parts.make
+
+
+# ---- what follows from flight dates
+
+def taken(table, chosen):
+    """The timetable without the flight dates that are not chosen."""
+    left = copy.copy(table)
+    dates = {flight: {day: legs for day, legs in days.items() if chosen.takes(flight, day, legs)} for flight, days in table.flights.items()}
+    left.flights = {flight: days for flight, days in dates.items() if days}
+    return left
+
+
+def blocks(found):
+    """The lines of several blocks, with an empty line between two."""
+    return [line for place, lines in enumerate(found) for line in [""] * (place > 0) + lines]
+
+
+def calendars(table, flights):
+    """The lines of `calendar` of several flights."""
+    return blocks([calendar(table, flight) for flight in sorted(set(flights))])
+
+
+# ---- cases
+
+def of_choice(rng, room, table, chosen):
+    """What is compared of a choice."""
+    left, named = taken(table, chosen), chosen.flights or None
+    room.counts["a choice of dates" if left.flights else "a choice without dates"] += 1
+    before, after = chosen.words(rng, table)
+    part = room("select", *before, "FILE", *after)
+    if part.status == 0:
+        room.write("PART", part.out)
+    names = [table.designator(flight) for flight in chosen.flights]
+    for form, lines in FORMS.items():
+        answer = room("list", *form, *before, "FILE", *after)
+        yield f"list {form} {before} {after}", answer, said(lines(left, named))
+        if part.status == 0:
+            yield f"list of select {form} {before} {after}", answer, room("list", *form, "PART", *names)
+    flights = chosen.flights or rng.choices([*table.flights, (1, " ")], k=rng.choice([1, 2, 3]))
+    names = [table.designator(flight) for flight in flights]
+    words = after if chosen.flights else names + after
+    answer = room("calendar", *before, "FILE", *words)
+    yield f"calendar {before} {words}", answer, said(calendars(left, flights))
+    if part.status == 0:
+        yield f"calendar of select {before} {words}", answer, room("calendar", "PART", *names)
+
+
+def compared(rng, room, kind):
+    if kind == "words":
+        yield from parts.of_words(rng, room, *rng.choice(COMMANDS))
+        return
+    whole = room.exported("FILE")
+    if whole is None:
+        room.counts["not exported"] += 1
+        return
+    table = Timetable(whole)
+    for _ in range(3):
+        yield from of_choice(rng, room, table, parts.choice(rng, table))
