@@ -45,7 +45,7 @@ PATIENCE = 60
 # The seconds after which a line that should be completed to nothing is looked at.
 ABSENT = 2
 
-# What a shell is told before the first line is typed: that the completion is there, and a prompt.
+# What is typed first in a shell: the completion is loaded, and the prompt is set.
 SHELLS = {
     "bash": ("bash --noprofile --norc -i", f"PS1='% '; source {BASH}"),
     "zsh": ("zsh -f -i", "PS1='%% '; fpath=($PWD $fpath); autoload -Uz compinit; compinit -u -D; setopt no_beep; LISTMAX=9999"),
@@ -122,7 +122,7 @@ class Terminal:
         self.run("send-keys", *keys)
 
     def completed(self, text, wanted):
-        """The screen when tab has been typed twice after a text, and what is wanted is there."""
+        """The screen when tab has been typed twice after a text, and the expected words are there."""
         self.run("send-keys", "C-u")
         self.run("send-keys", "C-l")
         self.until(lambda shown: shown.strip() == "%")
