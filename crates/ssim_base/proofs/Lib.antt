@@ -29,6 +29,7 @@ pub mod BlocksAhead
 pub mod CameRecords
 pub mod RecordsAhead
 pub mod ReadingLemmas
+pub mod BuiltDataSets
 pub mod RestLemmas
 pub mod ProblemChecks
 pub mod ProblemLemmas

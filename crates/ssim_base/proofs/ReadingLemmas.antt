@@ -43,7 +43,7 @@ Numbered = ℕ × Record
 
 -- ---- what was read so far
 
-abbrev records_in : List Numbered → List Record
+abbrev pub records_in : List Numbered → List Record
 records_in = map (λ r. r.1)
 
 -- nothing was read
@@ -56,7 +56,7 @@ nothing g is notes previous = record {
   noted = λ later. rw (notes, previous) refl;
 }
 
-all-one : (x : Numbered) → IsRecord x.1 → All (λ r. IsRecord r.1) (x ∷ [])
+pub all-one : (x : Numbered) → IsRecord x.1 → All (λ r. IsRecord r.1) (x ∷ [])
 all-one x h zero d below = h
 all-one x h (suc k) d below = absurd (omega (arith, below))
 

@@ -8,6 +8,7 @@ pub mod Closed
 pub mod Sinks
 pub mod Stations
 pub mod Reading
+pub mod Building
 pub mod Summary
 pub mod Problems
 pub mod SavedBase

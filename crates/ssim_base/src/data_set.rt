@@ -16,6 +16,7 @@ ghost use Rattle.ssim_base.specs.SavedBase.{IsBaseRecords};
 ghost use Rattle.ssim_base.specs.Timetable.{days_of};
 
 pub(crate) mod acceptance;
+pub(crate) mod builder;
 pub(crate) mod reader;
 pub(crate) mod record_sink;
 pub(crate) mod saved_lines;

@@ -5,6 +5,7 @@
 //!   [`StationRow`]s. [`variation_at`] looks it up in rows.
 //! - [`DataSet`]: a data set as it was read, record by record, in one list; or a [`BaseFault`],
 //!   which names the first invalid record. What is unusual but not refused is a [`Note`].
+//! - [`DataSetBuilder`]: a data set that is made record by record.
 //! - [`Base`]: a data set with a station table.
 //! - [`read_saved`]: the data set whose records the next lines of a file are, or a [`SavedFault`].
 //! - [`Summary`]: how many records and flights a data set has, and its notes. It is read as a base
@@ -44,6 +45,7 @@ pub use base::{Base, BaseRead};
 pub use base_frame::BaseFrame;
 pub use data_set::DataSet;
 pub use data_set::acceptance::validity_end;
+pub use data_set::builder::DataSetBuilder;
 pub use data_set::saved_lines::{SavedFault, read_saved};
 pub use fault::{BaseFault, BaseRefusal};
 pub use note::Note;

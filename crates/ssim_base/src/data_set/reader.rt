@@ -64,6 +64,16 @@ impl DataSetReader {
         self.kept.put(number, one)
     }
 
+    /// Forgets the notes so far. The next record is expected to have the serial after `previous`.
+    pub(crate) fn follow(&mut self, previous: u32)
+        ensures kept { self.new.kept ≡ self.old.kept }
+        ensures notes { self.new.notes.items ≡ [] }
+        ensures previous { self.new.previous ≡ previous }
+    {
+        self.notes.clear();
+        self.previous = previous;
+    }
+
     // Adds the notes on a record.
     #[inline(always)]
     fn note(&mut self, number: u64, one: &Record) -> Result<(), Memory>
