@@ -1,6 +1,7 @@
 pub mod Booleans
 pub mod Changing
 pub mod Choosing
+pub mod CountedDates
 pub mod EvenDays
 pub mod Held
 pub mod Landing

@@ -111,7 +111,7 @@ module _ (rows : List Row) (wanted : TimeMode) (old : Flown) where
 -- ---- the flights that fly
 
 -- a flight without pieces flies on no date
-no_pieces : (days : Days) → nat_lt 0 (length (pieces days)) ≡ false → (n : ℕ)
+pub no_pieces : (days : Days) → nat_lt 0 (length (pieces days)) ≡ false → (n : ℕ)
     → on_day days n ≡ []
 no_pieces days none n = by (pieces days) refl none
   where

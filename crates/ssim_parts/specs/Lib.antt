@@ -1,8 +1,8 @@
 pub mod Chosen
 pub mod Converted
+pub mod ConversionLines
 pub mod Fates
 pub mod FlightFates
-pub mod LeftLines
 pub mod MovedEnds
 pub mod MovedLegs
 pub mod internal

@@ -1,5 +1,6 @@
 -- Definitions that private functions alone cite, so nobody has to believe them.
 pub mod Changes
+pub mod Counted
 pub mod Even
 pub mod FateOrder
 pub mod KeptDates

@@ -8,7 +8,8 @@
 //! - [`choose`]: leaves of a timetable the chosen flight dates.
 //! - [`convert`]: the timetable in local time of one in UTC, or the other way round. [`FlightFates`]
 //!   says for each flight what becomes of its dates ([`Fate`]): which are kept, and which are left
-//!   and why ([`LeftReason`]). [`left_lines`] prints those that are left.
+//!   and why ([`LeftReason`]). [`conversion_lines`] are the lines of those that are left, and the
+//!   numbers of all. [`unconverted_lines`] are those of a timetable that stays as it is.
 //!
 //! A flight date is chosen whole, with all its legs and their segments. The only error is
 //! [`Memory`].
@@ -22,9 +23,10 @@
 mod choice;
 mod chosen;
 mod converted;
+mod date_counts;
 mod dated_end;
 mod fate;
-mod left_dates;
+mod left_lines;
 mod leg_end;
 mod moved_columns;
 mod moved_end;
@@ -38,5 +40,5 @@ pub use choice::Choice;
 pub use chosen::choose;
 pub use converted::{Converted, FlightFates, convert};
 pub use fate::{Fate, LeftReason};
-pub use left_dates::left_lines;
+pub use left_lines::{conversion_lines, unconverted_lines};
 pub use ssim_values::Memory;

@@ -1,17 +1,27 @@
-//! The lines that say which flight dates the other time mode leaves.
+//! The lines that say what the other time mode leaves, and how many flight dates it keeps.
 
 ghost use Rattle.std.specs.Prelude.{◌≡◌, ◌++◌, ◌∷◌, ◌%◌, List, ℕ, codes, IfOk, OnOk};
 ghost use Rattle.ssim_values.specs.Characters.{two_digits};
+ghost use Rattle.ssim_values.specs.Flight.{FlightNumber};
+ghost use Rattle.ssim_values.specs.declared.time_mode.TimeMode.{TimeMode};
 ghost use Rattle.ssim_base.specs.Export.{line};
+ghost use Rattle.ssim_base.specs.Stations.{Row};
+ghost use Rattle.ssim_base.specs.Timetable.{Days};
 ghost use Rattle.ssim_listing.specs.Lines.{period_text};
-ghost use Rattle.ssim_parts.specs.LeftLines.{all_left_lines, left_line, left_lines, reason_text};
+ghost use Rattle.ssim_schedule.specs.clauses.Schedule.{days_in};
+ghost use Rattle.ssim_parts.specs.FlightFates.{fates_of};
+ghost use Rattle.ssim_parts.specs.ConversionLines.{conversion_lines, last_line, left_line};
+ghost use Rattle.ssim_parts.specs.ConversionLines.{left_lines, reason_text, unconverted_lines};
 
 use crate::converted::FlightFates;
+use crate::date_counts::{DateCounts, flown_dates};
 use crate::fate::{Fate, LeftReason};
-use ssim_lines::{Printed, push_each};
+use ssim_lines::{Printed, push_each, written};
 use ssim_listing::{name_of, push_period};
+use ssim_schedule::Schedule;
 use ssim_values::{Airline, Memory, Period, write_two_digits};
 use std::alloc::Global;
+use std::io::Write;
 
 /// The airline of the flights whose lines are printed.
 #[derive(Clone, Copy)]
@@ -25,14 +35,40 @@ struct Named<'a> {
     name: &'a [u8],
 }
 
-/// The lines of flights of an airline: `left`, the flight, the period and the reason for each period
-/// of dates that are left.
-pub fn left_lines(alloc: Global, airline: Airline, fates: &[FlightFates]) -> Result<Vec<u8>, Memory>
-    ensures { IfOk result (λ lines. lines.items ≡ all_left_lines airline fates.now) }
+/// The lines of what becomes of flights of an airline: `left`, the flight, the period and the reason
+/// for each period of dates that are left, then the numbers of flight dates.
+pub fn conversion_lines(
+    alloc: Global,
+    airline: Airline,
+    fates: &[FlightFates],
+) -> Result<Vec<u8>, Memory>
+    ensures { (rows : List Row) (wanted : TimeMode) (days : FlightNumber → Days)
+        → fates.now ≡ fates_of rows wanted days
+        → IfOk result (λ lines. lines.items ≡ conversion_lines airline rows wanted days) }
 {
     let mut lines = Vec::new(alloc);
     push_each(&mut lines, &OfAirline { airline }, fates)?;
+    let counts = DateCounts::of_flights(fates);
+    push_last(&mut lines, counts.kept, counts.moved, counts.left)?;
     Ok(lines)
+}
+
+/// The line of a timetable that stays as it is: how many flight dates it has.
+pub fn unconverted_lines(alloc: Global, schedule: Schedule) -> Result<Vec<u8>, Memory>
+    ensures { IfOk result (λ lines. lines.items ≡ unconverted_lines (days_in schedule)) }
+{
+    let flights = schedule.into_flights()?;
+    let dates = flown_dates(&flights);
+    let mut lines = Vec::new(alloc);
+    push_last(&mut lines, dates, 0, 0)?;
+    Ok(lines)
+}
+
+// Adds the last line.
+fn push_last(lines: &mut Vec<u8>, kept: u64, moved: u64, left: u64) -> Result<(), Memory>
+    ensures { OnOk result (lines.new.items ≡ lines.old.items ++ last_line kept moved left) }
+{
+    written(writeln!(lines, "dates {kept} moved {moved} left {left}"))
 }
 
 impl Printed<OfAirline> for FlightFates {
