@@ -14,7 +14,8 @@ use Rattle.ssim_command_line.specs.Line.{choice_of, choice_words, flag, form_of,
 use Rattle.ssim_command_line.specs.Line.{two_values, values_in}
 use Rattle.ssim_command_line.specs.Line.{Board, Calendar, Check, Diff, Explain, Export, Findings, History, Listing}
 use Rattle.ssim_command_line.specs.Line.{Merge, Page, Problems, Publish, Receive, Rehearse, Select, Show, Start}
-use Rattle.ssim_command_line.specs.Line.{Carry, Take, Texts, Tidy, Withdraw}
+use Rattle.ssim_command_line.specs.Line.{Carry, Convert, Take, Texts, Tidy, Withdraw, mode_and_two}
+use Rattle.ssim_command_line.specs.declared.command_line.ModeWord.{ModeWord}
 use Rattle.ssim_command_line.specs.Usage.{bare_program, leaf}
 use Rattle.ssim_command_line.proofs.PlainWords.{Outcome, outcome, plain_walked, step_at}
 
@@ -83,6 +84,15 @@ three_reader name words make r (a ∷ []) e = no_line e
 three_reader name words make r (a ∷ b ∷ []) e = no_line e
 three_reader name words make r (a ∷ b ∷ d ∷ []) e = r a b d
 three_reader name words make r (a ∷ b ∷ d ∷ f ∷ rest) e = no_line e
+
+mode_reader : (name : Text) (words : List Rule) (make : List Row → ModeWord → Text → Text → Line)
+    → ((a b d : Text) → Reads (by name words (λ rows. mode_and_two (make rows))) (a ∷ b ∷ d ∷ []))
+    → IsReader (by name words (λ rows. mode_and_two (make rows)))
+mode_reader name words make r [] e = no_line e
+mode_reader name words make r (a ∷ []) e = no_line e
+mode_reader name words make r (a ∷ b ∷ []) e = no_line e
+mode_reader name words make r (a ∷ b ∷ d ∷ []) e = r a b d
+mode_reader name words make r (a ∷ b ∷ d ∷ f ∷ rest) e = no_line e
 
 four_reader : (name : Text) (words : List Rule) (make : List Row → Text → Text → Text → Text → Line)
     → ((a b d f : Text) → Reads (by name words (λ rows. four (make rows))) (a ∷ b ∷ d ∷ f ∷ []))
@@ -195,6 +205,11 @@ module _ (name : Text) where
   unfolding clap_on_literals
   three_plain make = three_reader name three_values (λ rows. make) (λ a b d. refl)
 
+  pub mode_plain : (make : ModeWord → Text → Text → Line)
+      → IsReader (command name three_values (mode_and_two make))
+  unfolding clap_on_literals
+  mode_plain make = mode_reader name three_values (λ rows. make) (λ a b d. refl)
+
   pub four_plain : (make : Text → Text → Text → Text → Line) → IsReader (command name four_values (four make))
   unfolding clap_on_literals
   four_plain make = four_reader name four_values (λ rows. make) (λ a b d f. refl)
@@ -306,6 +321,10 @@ readers =
     ∷ with_one (codes "findings") Findings
     ∷ with_one (codes "export") Export
     ∷ record { row = select_row; reads = select_read }
+    ∷ record {
+      row = command (codes "convert") three_values (mode_and_two Convert);
+      reads = mode_plain (codes "convert") Convert;
+    }
     ∷ with_three (codes "rehearse") Rehearse
     ∷ with_one (codes "explain") Explain
     ∷ []

@@ -8,6 +8,8 @@ use Rattle.clap.specs.Words.{Row, Rule, all_of, first_of, new_rule}
 use Rattle.clap.specs.declared.builder.action.ArgAction.TheVariants.{Append, SetTrue}
 use Rattle.ssim_command_line.specs.declared.command_line.ChoiceWords.{ChoiceWords}
 use Rattle.ssim_command_line.specs.declared.command_line.ListForm.{ListForm}
+use Rattle.ssim_command_line.specs.declared.command_line.ModeWord.{ModeWord}
+use Rattle.ssim_command_line.specs.declared.command_line.ModeWord.TheVariants.{Utc, Local}
 use Rattle.ssim_command_line.specs.declared.command_line.Request.{Request}
 use Rattle.ssim_command_line.specs.declared.command_line.Request.TheVariants as request
 
@@ -46,6 +48,7 @@ pub data Line : Type 0 where
   Findings : (desk : Text) → Line
   Export : (desk : Text) → Line
   Select : (choice : ChoiceTexts) (file : Text) (flights : List Text) → Line
+  Convert : (mode : ModeWord) (file out : Text) → Line
   Rehearse : (dataset stations script : Text) → Line
   Explain : (word : Text) → Line
 
@@ -86,6 +89,7 @@ line_of (request.Findings desk) = Findings desk.now
 line_of (request.Export desk) = Export desk.now
 line_of (request.Select choice file flights) =
     Select (choice_line choice) file.now (map (λ t. t.now) flights.items)
+line_of (request.Convert mode file out) = Convert mode file.now out.now
 line_of (request.Rehearse dataset stations script) = Rehearse dataset.now stations.now script.now
 line_of (request.Explain word) = Explain word.now
 
@@ -147,6 +151,13 @@ is_given name rows = option_map_or (λ text. bytes_eq text (codes "true")) (firs
 abbrev pub form_of : List Row → ListForm
 form_of rows = record { csv = is_given (codes "csv") rows; dates = is_given (codes "dates") rows }
 
+-- the time mode of a word
+abbrev pub mode_of : Text → Option ModeWord
+mode_of word =
+    if bytes_eq word (codes "utc") then Some Utc
+    else if bytes_eq word (codes "local") then Some Local
+    else None
+
 -- which flight dates the options choose
 abbrev pub choice_of : List Row → ChoiceTexts
 choice_of rows = record {
@@ -163,7 +174,7 @@ choice_words =
     ∷ repeated (codes "aircraft") ∷ []
 
 -- ---- the line that values make: of as many as it names, or of those and the texts after them. One
--- of two may be missing, which is the first of them.
+-- of two may be missing, which is the first of them. A time mode is one of two words.
 
 abbrev pub one : (Text → Line) → List Text → Option Line
 one make (a ∷ []) = Some (make a)
@@ -176,6 +187,10 @@ two make _ = None
 abbrev pub three : (Text → Text → Text → Line) → List Text → Option Line
 three make (a ∷ b ∷ d ∷ []) = Some (make a b d)
 three make _ = None
+
+abbrev pub mode_and_two : (ModeWord → Text → Text → Line) → List Text → Option Line
+mode_and_two make (word ∷ a ∷ b ∷ []) = option_map (λ mode. make mode a b) (mode_of word)
+mode_and_two make _ = None
 
 abbrev pub four : (Text → Text → Text → Text → Line) → List Text → Option Line
 four make (a ∷ b ∷ d ∷ e ∷ []) = Some (make a b d e)
@@ -250,6 +265,7 @@ commands =
       words = one_value ++ any_texts ∷ choice_words;
       make = λ rows. one_and_texts (Select (choice_of rows));
     }
+    ∷ command (codes "convert") three_values (mode_and_two Convert)
     ∷ command (codes "rehearse") three_values (three Rehearse)
     ∷ command (codes "explain") one_value (one Explain)
     ∷ []

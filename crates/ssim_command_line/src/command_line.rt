@@ -3,7 +3,7 @@ ghost use Rattle.std.specs.Prelude.{◌≡◌, ◌++◌, [], IfErr, IfOk, MatchR
 ghost use Rattle.std.specs.Prelude.{option_map, unwrap_or};
 ghost use Rattle.clap.specs.Words.{all_of, app_of, found_of, first_of, rows_of};
 ghost use Rattle.ssim_command_line.specs.Line.{Line, Spells, form_of, is_given, line_from, values_in};
-ghost use Rattle.ssim_command_line.specs.Line.{choice_line, choice_of, line_of};
+ghost use Rattle.ssim_command_line.specs.Line.{choice_line, choice_of, line_of, mode_of};
 ghost use Rattle.ssim_command_line.specs.Usage.{Names, line_at};
 ghost use Rattle.ssim_command_line.specs.clauses.Usage.{IsFaultOf};
 
@@ -21,6 +21,15 @@ pub struct ListForm {
     pub csv: bool,
     /// Date by date.
     pub dates: bool,
+}
+
+/// The time mode of the data set that `convert` writes.
+#[derive(Clone, Copy, Debug, PartialEq, Eq)]
+pub enum ModeWord {
+    /// UTC.
+    Utc,
+    /// Local time.
+    Local,
 }
 
 /// Which flight dates are chosen, in the words of the command line.
@@ -159,6 +168,12 @@ pub enum Request<'a> {
         file: &'a str,
         flights: Vec<&'a str>,
     },
+    /// Write the data set of the timetable of a desk or a data set in a time mode.
+    Convert {
+        mode: ModeWord,
+        file: &'a str,
+        out: &'a str,
+    },
     /// Run a script on desks.
     Rehearse {
         dataset: &'a str,
@@ -188,11 +203,22 @@ pub enum LineFault {
 
 /// The request with the values in its first fields, the texts after them in the next (one or more, if
 /// a `+` says so), and what the options say in the last; after `=` that takes memory. The first of two
-/// values may be missing, if a `?` says so. Nothing, if the values are too few or too many.
+/// values may be missing, if a `?` says so. After a `:` is what reads the first value. Nothing, if the
+/// values are too few or too many, or that reads nothing.
 macro_rules! request {
     (($alloc:expr, $inner:expr, $values:expr) $name:ident($($field:ident),+)) => {
         match $values {
             [$($field),+] => Ok(Some(Request::$name { $($field: *$field),+ })),
+            _ => Ok(None),
+        }
+    };
+    (($alloc:expr, $inner:expr, $values:expr)
+        $name:ident($first:ident: $of:ident, $($field:ident),+)) => {
+        match $values {
+            [$first, $($field),+] => match $of(*$first) {
+                Some($first) => Ok(Some(Request::$name { $first, $($field: *$field),+ })),
+                None => Ok(None),
+            },
             _ => Ok(None),
         }
     };
@@ -324,6 +350,17 @@ fn form_of(inner: &ArgMatches<'_>) -> ListForm
     ListForm {
         csv: is_given(inner, "csv"),
         dates: is_given(inner, "dates"),
+    }
+}
+
+/// The time mode of a word.
+fn mode_of(word: &str) -> Option<ModeWord>
+    ensures { result ≡ mode_of word.now }
+{
+    match word {
+        "utc" => Some(ModeWord::Utc),
+        "local" => Some(ModeWord::Local),
+        _ => None,
     }
 }
 

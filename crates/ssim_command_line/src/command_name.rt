@@ -30,6 +30,7 @@ pub(crate) enum CommandName {
     Findings,
     Export,
     Select,
+    Convert,
     Rehearse,
     Explain,
 }

@@ -56,7 +56,7 @@ The files of the examples are in samples/.
 The commands by what they are for:
   each day:   receive, take, board, show, list, calendar, page, diff, history
   a desk:     start, texts, findings, withdraw, merge, carry, export, publish
-  a data set: check, problems, tidy, select
+  a data set: check, problems, tidy, select, convert
   also:       explain, rehearse
 
 For each file that is read, - is standard input.
@@ -382,6 +382,28 @@ Exit status: 0, also if nothing is chosen; 1 if the file is refused, a word is
 no flight (6), station (3), aircraft type (25) or date (1), the airline is
 another one (41), --from is after --to (43), or a flight has more than 99
 variations."
+        "convert" [First("MODE"), Second("FILE"), Third("OUT")] => Convert(mode: mode_of, file, out)
+        "Write the data set of a timetable in UTC or in local time"
+        "\
+MODE is 'utc' or 'local'. A UTC variation that is blank in FILE is taken from
+the station table of a desk.
+Example:
+  ssimdesk convert utc season.ssim utc.ssim
+writes the file 'utc.ssim' and prints the number of flight dates in it, how many
+of them have another date of origin than before, and how many are left out:
+  dates 4645 moved 43 left 0
+Before that line it prints the periods of the flight dates that have no place in
+a data set of the other mode, each with the reason:
+  left Z7801 31OCT27 31OCT27 ......7 date
+The reason is 'station' or 'letter' with the sequence of a leg: no UTC variation
+for its station and date, or a date variation that is no digit; 'calendar': the
+date is before 01JAN00 or after 31DEC99; 'days' with the sequence of a leg: it
+arrives on the day before the date of origin, or more than 9 days after it;
+'date': an earlier date has come to the same new date.
+Texts then name the new dates. A data set holds no message: start a desk of it.
+Exit status: 0, also if dates are left; 1 if FILE is refused or cannot be read,
+a flight has more than 99 variations, OUT cannot be written or is held by
+another command (92), or OUT is a file of another kind (93)."
         "rehearse" [First("DATASET"), Second("STATIONS"), Third("SCRIPT")]
             => Rehearse(dataset, stations, script)
         "Run a script of takes and merges on several desks: do they agree?"
@@ -498,6 +520,7 @@ const WORDS: &[(Told, &str)] = &[
         "Of the first text: 05JUN00001E001 or .ZRHRMLX/05JUN00001E001",
     ),
     (Both("fourth", "OUT"), "The file of texts to write"),
+    (Name("MODE"), "The time mode of OUT: utc or local"),
     (
         Name("DATASET"),
         "The data set's file, 200 bytes a record; - is standard input",

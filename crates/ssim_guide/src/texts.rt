@@ -151,7 +151,7 @@ const TABLE: [Explanation; 43] = [
     Explanation {
         number: 40,
         meaning: "the text has the other time mode than the data set. For publish and diff TO has the other one than FROM",
-        remedy: "ask for the message in the data set's time mode",
+        remedy: "convert the data set, or ask for the message in its time mode",
     },
     Explanation {
         number: 41,

@@ -17,7 +17,8 @@ use Rattle.ssim_base.specs.Timetable.{Days, days_of}
 use Rattle.ssim_base.specs.declared.note.Note.{Note}
 use Rattle.ssim_base.proofs.FrameLemmas.{first-is, last-is, second-is}
 use Rattle.ssim_program.specs.Acts.{Print}
-use Rattle.ssim_program.specs.Again.{GrowsByItself, ReadsAsItself, TidiesOnce}
+use Rattle.ssim_program.specs.Again.{GrowsByItself, TidiesOnce}
+use Rattle.ssim_program.specs.Exports.{ReadsAsItself}
 use Rattle.ssim_program.specs.Made.{IsExport, IsExportOf, file_limit}
 
 -- ---- a base has one frame
@@ -83,7 +84,7 @@ tidied_once law all name bytes acts own is fits (set, read, (again, export, are)
 
 -- ---- what was exported
 
-reads_itself : (frame : Frame) (days : FlightNumber → Days) (bytes : List ℕ) → ReadsBackFrom frame days bytes → ReadsAsItself bytes
+pub reads_itself : (frame : Frame) (days : FlightNumber → Days) (bytes : List ℕ) → ReadsBackFrom frame days bytes → ReadsAsItself bytes
 reads_itself frame days bytes r = record {
   count = r.count;
   records = r.records;

@@ -163,7 +163,7 @@ abbrev carrier_in : CarrierFields → List Record → CarrierFields
 carrier_in other (Header header ∷ Carrier carrier ∷ later) = carrier
 carrier_in other _ = other
 
-carrier_alike : (base other : List Record) → base ≡ other
+pub carrier_alike : (base other : List Record) → base ≡ other
     → AreAlike Equal (carrier_of base) (carrier_of other)
 carrier_alike base other same =
     finds_alike (HasCarrier base) (HasCarrier other)
@@ -240,7 +240,7 @@ of_memory : (base : List Record) (fault : ExportFault) (why : Refusal)
 of_memory base fault why is memory =
     ap refusal_number (is ∙ ap (refused.Export (airline_of base)) memory)
 
-export_in_alike : (base : List Record) (days : FlightNumber → Days)
+pub export_in_alike : (base : List Record) (days : FlightNumber → Days)
     → AreAlike Equal (export_in base days) (export_in base days)
 export_in_alike base days = record {
   values = one_export base days;

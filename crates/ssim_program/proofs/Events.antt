@@ -221,6 +221,11 @@ module _ (old new : Files) (acts done later : List Act) (split : acts ≡ done +
       (mail.1, refl)
       (λ is. same_some new ((out, mail.1) ∷ old) (is
       ∙ ap (λ (k : Kept). with_kept k (Some old)) (ap kept_by are)))
+  of_line (line.Convert mode file out) (_, may, (one, read, (set, makes, (itself, are)))) =
+      keeps_one _ old new acts done later split left _ (Came out set.0) (ap kept_by are)
+      (set.0, refl)
+      (λ is. same_some new ((out, set.0) ∷ old) (is
+      ∙ ap (λ (k : Kept). with_kept k (Some old)) (ap kept_by are)))
   of_line (line.Findings desk) (bytes, is, are) =
       looks _ old new acts done later split left (ap kept_by are)
   of_line (line.Export desk) (one, read, (bytes, is, are)) =

@@ -31,6 +31,8 @@ pub mod Turns
 pub mod OneCount
 pub mod Alike
 pub mod OneOutcome
+pub mod Converting
+pub mod EqualConversions
 pub mod SameReading
 pub mod EqualFiles
 pub mod EqualDataSets

@@ -1,31 +1,19 @@
--- What `tidy`, `export` or `select` wrote can be tidied again, with the same bytes.
-use Rattle.std.specs.Prelude.{◌≡◌, ℕ, ◌+◌, ◌≤◌, List, [], ◌∷◌, length, ⊤, Option, Some, Ok}
+-- What `tidy`, `export`, `select` or `convert` wrote can be tidied again, with the same bytes.
+use Rattle.std.specs.Prelude.{◌≡◌, ℕ, ◌≤◌, List, [], ◌∷◌, length, ⊤, Option, Some, Ok}
 use Rattle.std.specs.Io.KnownBytes.{Appends}
-use Rattle.ssim_records.specs.declared.record.Record.{Record}
-use Rattle.ssim_base.specs.Base.{Done, data_set}
-use Rattle.ssim_base.specs.ReadBack.{AreRead}
 use Rattle.ssim_program.specs.Acts.{Act, Print}
 use Rattle.ssim_program.specs.Answers.{tidy}
+use Rattle.ssim_program.specs.Exports.{ReadsAsItself}
 use Rattle.ssim_program.specs.Files.{Files, file_of}
 use Rattle.ssim_command_line.specs.Line.{Line, Text, Tidy, Export, Select}
-use Rattle.ssim_program.specs.Made.{IsExportOf, file_limit}
-
--- the bytes are read as the records of a base, without a refusal or a note, and are the export of
--- that base
-pub record ReadsAsItself (bytes : List ℕ) : Type 0 where
-  pub count : ℕ
-  pub records : List (ℕ × Record)
-  pub base : List Record
-  pub read : AreRead bytes count records
-  pub is_base : data_set (Done (count + 1)) records ≡ Ok (base, [])
-  pub export : IsExportOf base bytes
+use Rattle.ssim_program.specs.Made.{file_limit}
 
 -- what was taken has grown by bytes that are read as themselves
 abbrev pub GrowsByItself : Option (List ℕ) → Option (List ℕ) → Type 0
 GrowsByItself before after = (bytes : List ℕ) × ReadsAsItself bytes × Appends before after bytes
 
 -- `tidy`, `export` and `select` print bytes that are read as themselves; nothing is said of other
--- commands
+-- commands. What `convert` keeps is read as itself by its own answer.
 abbrev pub PrintsItself : Line → Option (List ℕ) → Option (List ℕ) → Type 0
 PrintsItself (Tidy name) before after = GrowsByItself before after
 PrintsItself (Export file) before after = GrowsByItself before after

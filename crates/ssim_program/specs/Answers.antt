@@ -32,11 +32,13 @@ use Rattle.ssim_command_line.specs.Line.{Withdraw}
 use Rattle.ssim_command_line.specs.Line.{Carry, ChoiceTexts}
 use Rattle.ssim_command_line.specs.Line.{Receive, Texts, Show, History, Calendar, Findings, Export}
 use Rattle.ssim_command_line.specs.Line.{Rehearse, Explain, Page, Board, Diff, Publish, Listing}
-use Rattle.ssim_command_line.specs.Line.{Select}
+use Rattle.ssim_command_line.specs.Line.{Convert, Select}
 use Rattle.ssim_command_line.specs.declared.command_line.ListForm.{ListForm}
+use Rattle.ssim_command_line.specs.declared.command_line.ModeWord.{ModeWord}
 use Rattle.ssim_program.specs.Acts.{Act, Print, Keep, prints, prints_then}
 use Rattle.ssim_program.specs.Carrying.{AreOfOneAirline, carried}
-use Rattle.ssim_program.specs.Exports.{export_in}
+use Rattle.ssim_program.specs.Converting.{converted, mode_named}
+use Rattle.ssim_program.specs.Exports.{ReadsAsItself, export_in}
 use Rattle.ssim_program.specs.Answer.{Answer, Finds, Gives, Known, OrElse, Require, ◌>>=◌}
 use Rattle.ssim_program.specs.Choices.{choice_in}
 use Rattle.ssim_program.specs.Desks.{desk_in, flight_date, held_line, merged, text_taken}
@@ -186,6 +188,15 @@ select files words file flights = do
   choice ← choice_in (airline_of desk.base.records) words flights
   prints (export_in desk.base.records (chosen_days choice (days_of_desk desk)))
 
+-- The data set of a timetable in a time mode is kept, and the periods are printed that have no place
+-- in it. The data set is read as itself.
+abbrev pub convert : Option Files → ModeWord → Text → Text → Answer (List Act)
+convert files mode file out = do
+  place ← place_in files out kind.DataSet
+  desk ← timetable_in files file
+  made ← converted (mode_named mode) desk
+  Known (ReadsAsItself made.0) (Keep out made.0 ∷ Print made.1 ∷ [])
+
 -- The departures and arrivals at a station on a local date. The airline and the time mode are those
 -- of the carrier record.
 abbrev pub board : Option Files → Text → Text → Text → Answer (List ℕ)
@@ -331,5 +342,6 @@ answers (Publish from to reference out) files = publish files from to reference 
 answers (Findings file) files = prints (findings files file)
 answers (Export file) files = export files file
 answers (Select choice file flights) files = select files choice file flights
+answers (Convert mode file out) files = convert files mode file out
 answers (Rehearse dataset stations script) files = prints (rehearse files dataset stations script)
 answers (Explain word) files = prints (explain files word)

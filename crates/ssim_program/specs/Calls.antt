@@ -1,7 +1,7 @@
 -- Calls of the program, each of which is one event of a history.
 use Rattle.std.specs.Prelude.{◌≡◌, ◌⊎◌, ℕ, List, [], ◌∷◌, Option, Some, Result}
 use Rattle.ssim_command_line.specs.Line.{Line, Text, Start, Take, Receive, Merge, Carry, Withdraw}
-use Rattle.ssim_command_line.specs.Line.{Publish}
+use Rattle.ssim_command_line.specs.Line.{Convert, Publish}
 use Rattle.ssim_command_line.specs.Usage.{Names}
 use Rattle.ssim_program.specs.Answers.{answers}
 use Rattle.ssim_program.specs.Files.{Files}
@@ -13,7 +13,7 @@ use Rattle.ssim_program.specs.World.{Does, World}
 use Rattle.ssim_program.specs.declared.refusal.Refusal.{Refusal}
 
 -- The event that a command is, if it keeps a file: its desk is kept; or, of `receive`, the refused
--- texts alone; or, of `publish`, its messages come.
+-- texts alone; or, of `publish` and `convert`, its messages or its data set come.
 abbrev pub IsEventOf : Line → Event → Type 0
 IsEventOf (Start dataset stations out) event = event ≡ StartKept dataset stations out
 IsEventOf (Take desk out texts) event = event ≡ TakeKept desk out texts
@@ -24,6 +24,7 @@ IsEventOf (Merge mine theirs out) event = event ≡ MergeKept mine theirs out
 IsEventOf (Carry mine theirs out) event = event ≡ CarryKept mine theirs out
 IsEventOf (Withdraw desk out references) event = event ≡ WithdrawKept desk out references
 IsEventOf (Publish from to reference out) event = (mail : List ℕ) × (event ≡ Came out mail)
+IsEventOf (Convert mode file out) event = (set : List ℕ) × (event ≡ Came out set)
 IsEventOf line event = ⊥
 
 -- a command leads from files to files by one event: its own, or that no file changed

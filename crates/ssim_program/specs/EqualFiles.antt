@@ -73,6 +73,14 @@ PrintsTheSameOfPairs command =
     → answers (command from to) (Some files) (Ok acts)
     → answers (command here there) (Some others) (Ok again) → PrintTheSame acts again
 
+-- of equal files the command keeps the same file and prints equal bytes, if it is done of both
+abbrev pub MakesTheSame : (Text → Line) → Type 0
+MakesTheSame command =
+    (files others : Files) (name another : Text) (acts again : List Act)
+    → IsSameFile files name others another
+    → answers (command name) (Some files) (Ok acts)
+    → answers (command another) (Some others) (Ok again) → again ≡ acts
+
 -- the same files are kept
 abbrev pub KeepTheSame : List Act → List Act → Type 0
 KeepTheSame acts others = kept_by acts ≡ kept_by others

@@ -13,6 +13,7 @@ pub mod Withdrawing
 pub mod Carrying
 pub mod Receiving
 pub mod Exports
+pub mod Converting
 pub mod Answers
 pub mod Again
 pub mod World

@@ -30,7 +30,8 @@ use Rattle.ssim_program.specs.print.Refusal.{IsMemory}
 
 -- What happens to named files: a command keeps a desk; the files stay as they are, as after a command
 -- that looks or is refused; a file is copied under another name; or a file comes from elsewhere, as
--- a telegram does. The messages that `publish` keeps are such a file: it makes no desk.
+-- a telegram does. The messages that `publish` keeps are such a file, and so is the data set that
+-- `convert` keeps: they make no desk.
 pub data Event : Type 0 where
   StartKept : (dataset stations out : Text) → Event
   TakeKept : (desk out : Text) (texts : List Text) → Event

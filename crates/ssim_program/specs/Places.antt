@@ -22,10 +22,11 @@ abbrev pub begins_data_set : List ℕ → Bool
 begins_data_set bytes = starts_with nat_eq bytes (codes "1AIRLINE STANDARD SCHEDULE DATA SET")
 
 -- Whether what a command keeps may replace a file of these bytes. A desk file replaces a desk file
--- or an empty file; messages replace any file but a desk file and a data set; refused texts replace
--- an empty file alone.
+-- or an empty file, and a data set a data set or an empty file; messages replace any file but a desk
+-- file and a data set; refused texts replace an empty file alone.
 abbrev pub replaces : ContentKind → List ℕ → Bool
 replaces kind.DeskFile bytes = (length bytes == 0) || begins_desk_file bytes
+replaces kind.DataSet bytes = (length bytes == 0) || begins_data_set bytes
 replaces kind.Messages bytes = not (begins_desk_file bytes) && not (begins_data_set bytes)
 replaces kind.RefusedTexts bytes = length bytes == 0
 

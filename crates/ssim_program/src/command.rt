@@ -12,6 +12,7 @@ pub(crate) mod carry;
 pub(crate) mod check;
 pub(crate) mod choice;
 pub(crate) mod chosen;
+pub(crate) mod convert;
 pub(crate) mod diff;
 pub(crate) mod export;
 pub(crate) mod findings;
@@ -124,6 +125,7 @@ pub(crate) fn make<'r, S: Store>(
             file,
             flights,
         } => select::select(alloc, choice, file, flights, store),
+        Request::Convert { mode, file, out } => convert::convert(alloc, *mode, file, out, store),
         Request::Rehearse {
             dataset,
             stations,

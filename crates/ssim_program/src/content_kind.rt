@@ -14,6 +14,8 @@ const DATA_SET: &[u8] = b"1AIRLINE STANDARD SCHEDULE DATA SET";
 pub enum ContentKind {
     /// A desk file. It replaces a desk file or an empty file.
     DeskFile,
+    /// A data set. It replaces a data set or an empty file.
+    DataSet,
     /// Messages. They replace any file but a desk file and a data set.
     Messages,
     /// Refused texts. They replace an empty file alone.
@@ -27,6 +29,7 @@ impl ContentKind {
     {
         match self {
             ContentKind::DeskFile => bytes.is_empty() || begins_desk_file(bytes),
+            ContentKind::DataSet => bytes.is_empty() || begins_data_set(bytes),
             ContentKind::Messages => !begins_desk_file(bytes) && !begins_data_set(bytes),
             ContentKind::RefusedTexts => bytes.is_empty(),
         }

@@ -1,23 +1,27 @@
-//! Exports that are printed while they are made.
+//! Exports that are printed while they are made, and exports in memory.
 
-ghost use Rattle.std.specs.Prelude.{◌≡◌, List, OnOk};
+ghost use Rattle.std.specs.Prelude.{◌≡◌, IfErr, IfOk, List, Ok, OnOk};
 ghost use Rattle.ssim_values.specs.Flight.{FlightNumber};
 ghost use Rattle.ssim_records.specs.declared.record.Record.{Record};
 ghost use Rattle.ssim_base.specs.Base.{airline_of};
+ghost use Rattle.ssim_base.specs.Export.{chapter7};
 ghost use Rattle.ssim_base.specs.Timetable.{Days, days_of};
+ghost use Rattle.ssim_schedule.specs.clauses.Schedule.{days_in};
 ghost use Rattle.ssim_desk.specs.Desk.{days_of_desk};
 ghost use Rattle.ssim_parts.specs.Chosen.{chosen_days};
 ghost use Rattle.ssim_program.specs.Again.{GrowsByItself};
-ghost use Rattle.ssim_program.specs.internal.Export.{IsWritten, PrintsExport};
+ghost use Rattle.ssim_program.specs.Exports.{ReadsAsItself};
+ghost use Rattle.ssim_program.specs.internal.Export.{HasNoExportIn, IsWritten, PrintsExport};
 ghost use Rattle.ssim_program.specs.print.Paper.{Paper};
 
 use crate::print::printer::Printer;
 use crate::refusal::Refusal;
-use ssim_base::DataSet;
+use ssim_base::{BaseFrame, DataSet};
 use ssim_desk::Holdings;
 use ssim_parts::{Choice, choose};
-use ssim_schedule::{ExportFault, export_data_set};
+use ssim_schedule::{ExportFault, Schedule, export_data_set};
 use ssim_values::Airline;
+use std::alloc::Global;
 use std::io::Write;
 
 /// Prints the canonical export of a data set.
@@ -94,6 +98,36 @@ fn end_export<W: Write>(
         Err(fault) => match fault {
             ExportFault::WriteFault => Err(Refusal::WriteFault),
             _ => Err(Refusal::Export { airline, fault }),
+        },
+    }
+}
+
+/// The canonical export of a schedule in a frame, in memory.
+pub(crate) fn export_bytes(
+    alloc: Global,
+    schedule: Schedule,
+    frame: &BaseFrame,
+) -> Result<Vec<u8>, ExportFault>
+    ensures ok { IfOk result (λ bytes. chapter7 frame.now (days_in schedule) ≡ Ok bytes.items) }
+    ensures err { IfErr result (HasNoExportIn frame.now (days_in schedule)) }
+    ensures again { IfOk result (λ bytes. ReadsAsItself bytes.items) }
+{
+    let mut bytes = Vec::new(alloc);
+    let mut out = Printer::new(&mut bytes);
+    let written = schedule.export_in(frame, &mut out);
+    let Printer {
+        writer,
+        failures: _,
+        flushed: _,
+    } = out;
+    // No effect at run time. The proof reads what the writer holds from this use.
+    let _ = &*writer;
+    match written {
+        Ok(()) => Ok(bytes),
+        Err(fault) => match fault {
+            // A vector takes all bytes, or memory is out.
+            ExportFault::WriteFault => Err(ExportFault::Memory),
+            _ => Err(fault),
         },
     }
 }

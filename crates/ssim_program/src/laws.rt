@@ -2,16 +2,17 @@
 
 ghost use Rattle.std.specs.Prelude.{List, None, Some};
 ghost use Rattle.ssim_command_line.specs.Line.{Board, Calendar, Carry, Check, ChoiceTexts, Diff};
-ghost use Rattle.ssim_command_line.specs.Line.{Export, Findings, Select};
+ghost use Rattle.ssim_command_line.specs.Line.{Convert, Export, Findings, Select};
 ghost use Rattle.ssim_command_line.specs.Line.{History, Listing, Page, Problems, Show, Text, Texts};
 ghost use Rattle.ssim_command_line.specs.Line.{Tidy, Withdraw};
 ghost use Rattle.ssim_command_line.specs.declared.command_line.ListForm.{ListForm};
+ghost use Rattle.ssim_command_line.specs.declared.command_line.ModeWord.{ModeWord};
 ghost use Rattle.ssim_program.specs.Again.{TidiesOnce};
 ghost use Rattle.ssim_program.specs.Calls.{CommandsAreEvents};
 ghost use Rattle.ssim_program.specs.Conflicts.{CarryMeetsTwo, MergeMeetsTwo};
 ghost use Rattle.ssim_program.specs.Conflicts.{ReceiveMeetsTwo, TakeMeetsTwo};
 ghost use Rattle.ssim_program.specs.EqualFiles.{CarriesAsMerges, DoesTheSame, DoesTheSameOfPairs};
-ghost use Rattle.ssim_program.specs.EqualFiles.{PrintsTheSame, PrintsTheSameOfPairs};
+ghost use Rattle.ssim_program.specs.EqualFiles.{MakesTheSame, PrintsTheSame, PrintsTheSameOfPairs};
 ghost use Rattle.ssim_program.specs.Messages.{TextsAreMail};
 ghost use Rattle.ssim_program.specs.Offices.{HoldsWhatWasBrought, OfficesAgree};
 ghost use Rattle.ssim_program.specs.FirstProblem.{RefusalIsFirstProblem};
@@ -92,7 +93,8 @@ pub fn equal_desk_files_do_the_same()
 
 /// Of two equal desk files, or of two equal data sets, `show`, `history`, `list`, `board`, `calendar`,
 /// `page` and `select` do the same: they print the same bytes, or are refused for the same. So do
-/// `diff` and `page` of two pairs of equal files.
+/// `diff` and `page` of two pairs of equal files. `convert` keeps the same data set, and prints the
+/// same.
 pub fn equal_timetables_do_the_same()
     ensures show { (flight date : Text) → DoesTheSame (λ file. Show file flight date) }
     ensures history { (flight date : Text) → DoesTheSame (λ file. History file flight date) }
@@ -104,6 +106,8 @@ pub fn equal_timetables_do_the_same()
     ensures page { DoesTheSame (Page None) }
     ensures select { (words : ChoiceTexts) (flights : List Text)
         → DoesTheSame (λ file. Select words file flights) }
+    ensures convert { (mode : ModeWord) (out : Text)
+        → MakesTheSame (λ file. Convert mode file out) }
     ensures diff { DoesTheSameOfPairs Diff }
     ensures changed_page { DoesTheSameOfPairs (λ from. Page (Some from)) }
 {
@@ -187,7 +191,7 @@ pub fn memory_has_one_line()
 
 /// Each call of the program on the words of a command is one event of a history of files, whatever its
 /// status: the command kept its desk; or `receive` kept the refused texts alone; or the messages of
-/// `publish` came; or no file changed.
+/// `publish` or the data set of `convert` came; or no file changed.
 pub fn commands_are_events()
     ensures { CommandsAreEvents }
 {}

@@ -1,10 +1,13 @@
--- What an export leaves on a printer.
-use Rattle.std.specs.Prelude.{ℕ, List, IfErr, OnOk, Option, Result}
+-- What an export leaves on a printer, and an export in memory.
+use Rattle.std.specs.Prelude.{◌≡◌, ℕ, List, IfErr, OnOk, Option, Result, Err, ⊤}
 use Rattle.ssim_values.specs.Flight.{FlightNumber}
 use Rattle.ssim_records.specs.declared.record.Record.{Record}
+use Rattle.ssim_base.specs.Export as refusal
+use Rattle.ssim_base.specs.Export.{Frame, chapter7}
 use Rattle.ssim_schedule.specs.clauses.ExportResult.{ReadsBackBase, RefusesBase, WritesBase}
 use Rattle.ssim_base.specs.Timetable.{Days}
 use Rattle.ssim_schedule.specs.declared.export.ExportFault.{ExportFault}
+use Rattle.ssim_schedule.specs.declared.export.ExportFault.TheVariants as export
 use Rattle.ssim_program.specs.Acts.{prints}
 use Rattle.ssim_program.specs.Exports.{export_in}
 use Rattle.ssim_program.specs.Files.{Files}
@@ -25,3 +28,12 @@ abbrev pub PrintsExport : List Record → (FlightNumber → Days) → Paper → 
 PrintsExport base days before after result =
     (files : Option Files) (failures : ℕ) → Does (prints (export_in base days))
     (world files failures before) (world files failures after) result
+
+-- a timetable of these days has no export in a frame, for a flight or for the number of records; or
+-- memory ran out
+abbrev pub HasNoExportIn : Frame → (FlightNumber → Days) → ExportFault → Type 0
+HasNoExportIn frame days (export.Variations flight) =
+    chapter7 frame days ≡ Err (refusal.Variations flight)
+HasNoExportIn frame days export.Records = chapter7 frame days ≡ Err refusal.Records
+HasNoExportIn frame days export.WriteFault = ⊥
+HasNoExportIn frame days export.Memory = ⊤

@@ -71,6 +71,9 @@ returns-in-Withdraw-clause-answer g c = let old = g.S.Store.files c.args.store.n
 pub returns-in-Publish-clause-answer : goal.returns-in-Publish-clause-answer
 returns-in-Publish-clause-answer g c = made_of _ _ _ _ _ c.in-Publish.is c.publish.ensures.answer
 
+pub returns-in-Convert-clause-answer : goal.returns-in-Convert-clause-answer
+returns-in-Convert-clause-answer g c = made_of _ _ _ _ _ c.in-Convert.is c.convert.ensures.answer
+
 pub returns-in-Check-clause-answer : goal.returns-in-Check-clause-answer
 returns-in-Check-clause-answer g c = let old = g.S.Store.files c.args.store.now in
     made_of _ _ _ _ _ c.in-Check.is

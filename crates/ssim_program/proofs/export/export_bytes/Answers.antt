@@ -1,0 +1,18 @@
+-- The bytes were empty, so they have the export, which is read as itself.
+use Rattle.std.proofs.Common.{◌≡◌, [], List, Option, Some, rules, subst, sym, ℕ}
+use Rattle.std.specs.Io.KnownBytes.{Appends}
+use Rattle.ssim_program.specs.Exports.{ReadsAsItself}
+use Rattle.ssim_program.proofs.Again.{reads_itself}
+use Rattle.ssim_program.proofs.export.export_bytes.Goals as goal
+
+taken_whole : (old new : Option (List ℕ)) (bytes taken : List ℕ) → old ≡ Some []
+    → new ≡ Some taken → Appends old new bytes → ReadsAsItself bytes → ReadsAsItself taken
+taken_whole old new bytes taken empty whole appends reads =
+    let from_empty = subst (λ (o : Option (List ℕ)). Appends o new bytes) empty appends in
+    let is = subst (λ (o : Option (List ℕ)). Appends (Some []) o bytes) whole from_empty in
+    subst ReadsAsItself (sym is) reads
+
+pub returns-in-Ok-clause-again : goal.returns-in-Ok-clause-again
+returns-in-Ok-clause-again c =
+    let back = c.in-Ok.ensures.reads_back in
+    taken_whole _ _ back.0 _ (search rules) (search rules) back.1 (reads_itself _ _ back.0 back.2)
