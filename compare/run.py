@@ -1,9 +1,9 @@
 #!/usr/bin/env python3
 """Compares a program with a plain model on seeded cases: run.py MODEL PROGRAM [--cases N] [--seed N] [--kind KIND] [--jobs N] [PEER]
 
-MODEL is a module of this folder, whose doc string says what is compared. `carry`, `days`, `explain`, `parts`, `publish`, `receive`, `views`
-and `words` know by themselves what the program must print; `commands`, `data_sets`, `desk_files` and `problems` ask PEER, another program
-of the same requirement.
+MODEL is a module of this folder, whose doc string says what is compared. `carry`, `convert`, `days`, `explain`, `parts`, `publish`,
+`receive`, `views` and `words` know by themselves what the program must print; `commands`, `data_sets`, `desk_files` and `problems` ask PEER,
+another program of the same requirement.
 
 Each of N (200) cases has a folder of its own, and a random number generator by the seed (1) and its number. The model makes a case of KIND,
 or of any of its kinds, by `make(rng, room, kind)`; then `compared(rng, room, case)` runs commands and yields what is compared, what came and
@@ -24,7 +24,7 @@ sys.path.insert(0, os.path.join(os.path.dirname(os.path.dirname(os.path.abspath(
 
 from room import Answer, Room
 
-MODELS = ["carry", "days", "explain", "parts", "publish", "receive", "views", "words"]
+MODELS = ["carry", "convert", "days", "explain", "parts", "publish", "receive", "views", "words"]
 WITH_PEER = ["commands", "data_sets", "desk_files", "problems"]
 SHOWN = 5
 

@@ -24,6 +24,9 @@ NO_FILES = {"FLIGHT", "DATE", "STATION", "TYPE", "REFERENCE"}
 # Values of options that may come several times.
 SEVERAL = {"STATION", "TYPE"}
 
+# Values that are one of a few words.
+CHOICES = {"MODE": "utc local"}
+
 # The flights and the stations of the lines that `list` prints.
 LISTED = """\
 # The flights, or the stations, of a file that is not too large to be read at once.
@@ -77,6 +80,7 @@ _ssimdesk() {
     [ -n "$kind" ] || [[ ${values[-1]} != *... ]] || kind=${values[-1]}
     file=${file//[\\\\\\'\\"]/}
     case "$kind" in
+CHOICES
     FLIGHT*|STATION) _ssimdesk_found -W "$(_ssimdesk_listed "${kind%...}" "${file/#\\~\\//$HOME/}")" ;;
     ''|DATE|REFERENCE*) ;;
     *) _ssimdesk_found -f ;;
@@ -292,7 +296,9 @@ def in_bash(pages):
         values = " ".join(values_of(page)) + ("..." if is_repeated(page) else "")
         found.setdefault(f"{values}:{options}", []).append(name)
     cases = "\n".join(f"    {'|'.join(names)}) echo '{words}' ;;" for words, names in found.items())
+    choices = "\n".join(f"    {value}) _ssimdesk_found -W '{words}' ;;" for value, words in CHOICES.items())
     text = IN_BASH.replace("LISTED", LISTED).replace("NAMES", " ".join(name for name, _ in pages)).replace("CASES", cases)
+    text = text.replace("CHOICES", choices)
     return with_options(text, pages, "|")
 
 
@@ -311,6 +317,7 @@ def zsh_values(page):
     for place, value in enumerate(values, 1):
         last = place == len(values) and is_repeated(page)
         action = f" _ssimdesk_of {value}" if value in ("FLIGHT", "STATION") else " " if value in NO_FILES else "_files"
+        action = f"({CHOICES[value]})" if value in CHOICES else action
         yield quoted(f"{'*' if last else place}:{value}:{action}")
 
 
@@ -334,6 +341,8 @@ def fish_lines(name, page):
         end = 1000000 if place + 1 == len(values) and is_repeated(page) else place + 1
         if value in ("FLIGHT", "STATION"):
             yield f"complete -c ssimdesk -n '__ssimdesk_at {name} {place} {end}' -a '(__ssimdesk_listed {value})'"
+        elif value in CHOICES:
+            yield f"complete -c ssimdesk -n '__ssimdesk_at {name} {place} {end}' -a '{CHOICES[value]}'"
         elif value not in NO_FILES:
             yield f"complete -c ssimdesk -n '__ssimdesk_at {name} {place} {end}' -F"
 

@@ -95,6 +95,8 @@ class Holds:
         publish = ["publish", "season.ssim", "planned.ssim", "20MAR00001E001"]
         self.refused("OUT of publish is a desk", "refused 93 Occupied fdh.desk", *publish, "fdh.desk")
         self.refused("OUT of publish is a data set", "refused 93 Occupied planned.ssim", *publish, "planned.ssim")
+        for name in "fdh.desk", "note", "mail.txt", "link to desk":
+            self.refused("OUT of convert is no data set", f"refused 93 Occupied {name}", "convert", "utc", "season.ssim", name)
         receive = ["fdh.desk", "fdh.desk", "mail.txt"]
         for name in "mail.txt", "fdh.desk", "note", "link to desk", "season.ssim":
             self.refused("refused texts go to a file with bytes", f"refused 93 Occupied {name}", "receive", "--refused", name, *receive)
@@ -108,6 +110,8 @@ class Holds:
         self.count("a desk file replaces an empty file", done.returncode != 0 and "another status", done)
         done = self.run(*publish, "note")
         self.count("messages replace a note", done.returncode != 0 and "another status", done)
+        done = self.run("convert", "utc", "season.ssim", "planned.ssim")
+        self.count("a data set replaces a data set", done.returncode != 0 and "another status", done)
 
     # ---- files that another program holds or changes
 

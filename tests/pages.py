@@ -37,6 +37,8 @@ COMPLETED = [
     ("ssimdesk list --aircraft 320 a.ssim Z710", "Z7101 Z7102 | Z7111 FDH"),
     ("ssimdesk board a.ssim H", "HAM | FDH Z7101"),
     ("ssimdesk board a.ssim HAM a", "| season.ssim"),
+    ("ssimdesk convert lo", "local"),
+    (r"ssimdesk convert utc a\ s", r"a\ season.ssim"),
 ]
 
 # The seconds after which a shell has not completed a line. A processor may have other work.

@@ -177,6 +177,8 @@ desks_refused() {
     expect "a desk is not written to standard output" 1 "" $'refused 91 File -\n' start divided.ssim none -
     sent=$'text SSM 02JUN25 00001 001 subs 1\ntexts 1 subs 1 unsaid dates 0\n'
     expect "texts are not written to standard output" 1 "$sent" $'refused 91 File -\n' publish desk held 02JUN00001E001 -
+    expect "a data set is not written to standard output" 1 "" $'refused 91 File -\n' convert utc divided.ssim -
+    expect "a time mode is none" 2 "" "~the words name no command" convert UTC divided.ssim new
     expect "a folder is no output" 1 "$taken" $'refused 91 File folder\n' take desk folder x2
     expect "the folder of the output is missing" 1 "" $'refused 91 File none/new\n' merge desk held none/new
     expect "a folder is no input" 1 "" $'refused 91 File folder\n' findings folder
