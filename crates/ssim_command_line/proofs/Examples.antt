@@ -1,5 +1,5 @@
 -- Lines with options, computed: which command the words name.
-use Rattle.std.proofs.Common.{true, false, refl, List, [], ◌∷◌, Some, None, codes}
+use Rattle.std.proofs.Common.{true, false, refl, [], ◌∷◌, Some, None, codes}
 use Rattle.clap.proofs.OnLiterals.{clap_on_literals}
 use Rattle.ssim_command_line.specs.Line.{Calendar, ChoiceTexts, Listing, Receive, Select}
 use Rattle.ssim_command_line.specs.Usage.{Names}
@@ -15,7 +15,8 @@ as_csv = record { right = refl; name = codes "list"; rows = _; entered = refl; r
 
 -- `list summer.ssim Z7341 --dates`: the option last
 by_date : Names (codes "ssimdesk" ∷ codes "list" ∷ codes "summer.ssim" ∷ codes "Z7341" ∷ codes "--dates" ∷ [])
-    (Listing (record { csv = false; dates = true }) all_dates (codes "summer.ssim") (codes "Z7341" ∷ []))
+    (Listing (record { csv = false; dates = true }) all_dates (codes "summer.ssim")
+    (codes "Z7341" ∷ []))
 unfolding clap_on_literals
 by_date = record { right = refl; name = codes "list"; rows = _; entered = refl; read = refl }
 

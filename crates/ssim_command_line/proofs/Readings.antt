@@ -8,7 +8,8 @@ use Rattle.clap.specs.Walk.{Row, Rule, Walk, first_of, nothing_held, positional,
 use Rattle.clap.specs.declared.parser.matches.ValueSource.TheVariants.{CommandLine}
 use Rattle.clap.proofs.OnLiterals.{clap_on_literals}
 use Rattle.ssim_command_line.specs.Line.{Command, Line, Text, any_texts, command, four, four_values}
-use Rattle.ssim_command_line.specs.Line.{one, one_and_several, one_and_texts, one_or_two, one_or_two_values, one_value, three}
+use Rattle.ssim_command_line.specs.Line.{one, one_and_several, one_and_texts, one_or_two}
+use Rattle.ssim_command_line.specs.Line.{one_or_two_values, one_value, three}
 use Rattle.ssim_command_line.specs.Line.{three_values, two, two_and_texts}
 use Rattle.ssim_command_line.specs.Line.{choice_of, choice_words, flag, form_of, optional, several_texts}
 use Rattle.ssim_command_line.specs.Line.{two_values, values_in}
@@ -229,7 +230,8 @@ abbrev pub texts_row : Command
 texts_row = command (codes "texts") (one_value ++ any_texts ∷ []) (one_and_texts Texts)
 
 abbrev pub list_row : Command
-list_row = by (codes "list") (one_value ++ any_texts ∷ flag (codes "csv") ∷ flag (codes "dates") ∷ choice_words)
+list_row = by (codes "list")
+    (one_value ++ any_texts ∷ flag (codes "csv") ∷ flag (codes "dates") ∷ choice_words)
     (λ rows. one_and_texts (Listing (form_of rows) (choice_of rows)))
 
 abbrev pub calendar_row : Command
@@ -310,8 +312,8 @@ readers =
     ∷ with_three (codes "carry") Carry
     ∷ record { row = texts_row; reads = texts_read_by }
     ∷ with_several (codes "withdraw") Withdraw
-    ∷ with_three (codes "show") Show
-    ∷ with_three (codes "history") History
+    ∷ with_several (codes "show") Show
+    ∷ with_several (codes "history") History
     ∷ record { row = list_row; reads = list_read }
     ∷ with_three (codes "board") Board
     ∷ record { row = calendar_row; reads = calendar_read }

@@ -37,8 +37,8 @@ pub data Line : Type 0 where
   Carry : (desk other out : Text) → Line
   Texts : (desk : Text) (flights : List Text) → Line
   Withdraw : (desk out : Text) (references : List Text) → Line
-  Show : (file flight date : Text) → Line
-  History : (file flight date : Text) → Line
+  Show : (file flight : Text) (words : List Text) → Line
+  History : (file flight : Text) (words : List Text) → Line
   Board : (file station date : Text) → Line
   Listing : (form : ListForm) (choice : ChoiceTexts) (file : Text) (flights : List Text) → Line
   Calendar : (choice : ChoiceTexts) (file : Text) (flights : List Text) → Line
@@ -75,8 +75,10 @@ line_of (request.Carry desk other out) = Carry desk.now other.now out.now
 line_of (request.Texts desk flights) = Texts desk.now (map (λ t. t.now) flights.items)
 line_of (request.Withdraw desk out references) =
     Withdraw desk.now out.now (map (λ r. r.now) references.items)
-line_of (request.Show file flight date) = Show file.now flight.now date.now
-line_of (request.History file flight date) = History file.now flight.now date.now
+line_of (request.Show file flight words) =
+    Show file.now flight.now (map (λ t. t.now) words.items)
+line_of (request.History file flight words) =
+    History file.now flight.now (map (λ t. t.now) words.items)
 line_of (request.Board file station date) = Board file.now station.now date.now
 line_of (request.List form choice file flights) =
     Listing form (choice_line choice) file.now (map (λ t. t.now) flights.items)
@@ -242,8 +244,8 @@ commands =
     ∷ command (codes "carry") three_values (three Carry)
     ∷ command (codes "texts") (one_value ++ any_texts ∷ []) (one_and_texts Texts)
     ∷ command (codes "withdraw") (two_values ++ several_texts ∷ []) (two_and_texts Withdraw)
-    ∷ command (codes "show") three_values (three Show)
-    ∷ command (codes "history") three_values (three History)
+    ∷ command (codes "show") (two_values ++ several_texts ∷ []) (two_and_texts Show)
+    ∷ command (codes "history") (two_values ++ several_texts ∷ []) (two_and_texts History)
     ∷ record {
       name = codes "list";
       words = one_value ++ any_texts ∷ flag (codes "csv") ∷ flag (codes "dates") ∷ choice_words;

@@ -104,17 +104,19 @@ pub enum Request<'a> {
         out: &'a str,
         references: Vec<&'a str>,
     },
-    /// Print a flight of a desk or a data set on a date.
+    /// Print flights of a desk or a data set on a date: a flight, and the words after it, which are
+    /// more flights and at last the date.
     Show {
         file: &'a str,
         flight: &'a str,
-        date: &'a str,
+        words: Vec<&'a str>,
     },
-    /// Print what the messages of a desk did with a flight on a date; a data set has none.
+    /// Print what the messages of a desk did with flights on a date; a data set has none. The words
+    /// are those of `Show`.
     History {
         file: &'a str,
         flight: &'a str,
-        date: &'a str,
+        words: Vec<&'a str>,
     },
     /// Print the departures and arrivals of a desk or a data set at a station on a local date.
     Board {

@@ -205,8 +205,9 @@ A merge with a desk that still holds the message brings it back.
 Exit status: 0, also if no message was held; 1 if the desk file is refused, a
 word is no reference (21), a file cannot be read or written, another command
 holds OUT (92), or OUT is a file of another kind (93)."
-        "show" [First("FILE"), Second("FLIGHT"), Third("DATE")] => Show(file, flight, date)
-        "Print the legs of a flight on a date of origin"
+        "show" [First("FILE"), Second("FLIGHT"), Several("FLIGHT/DATE")]
+            => Show(file, flight; words+)
+        "Print the legs of flights on a date of origin"
         "\
 Example:
   ssimdesk show fdh.desk Z7101 20MAY27
@@ -216,11 +217,13 @@ the arrival station, aircraft and passenger time, and UTC variation; the date
 variations; the service type and the aircraft type, with . for each blank:
   Z7101 20MAY27
   01 FDH 0630 0630 +0200 HAM 0755 0755 +0200 00 J E90
+The date is the last word. Between two flights is an empty line.
 Exit status: 0, also if there is no flight; 1 if FILE is neither a desk file nor
 a data set (62), FLIGHT is no designator (6), DATE is no date (1), or another
 airline is named (41)."
-        "history" [First("FILE"), Second("FLIGHT"), Third("DATE")] => History(file, flight, date)
-        "Print what each message of a desk did to a flight on a date"
+        "history" [First("FILE"), Second("FLIGHT"), Several("FLIGHT/DATE")]
+            => History(file, flight; words+)
+        "Print what each message of a desk did to flights on a date"
         "\
 Example:
   ssimdesk history fdh.desk Z7103 24MAY27
@@ -235,6 +238,7 @@ before. A data set has no messages:
     01 FDH 1730 1730 +0200 HAM 1920 1920 +0200 00 J AT7
   SSM 15MAR27 00001 001 1 CNL acted
     no flight
+The date is the last word. Between two flights is an empty line.
 Exit status: 0; 1 if FILE is neither a desk file nor a data set (62), FLIGHT is
 no designator (6), DATE is no date (1), or the airline is another one (41)."
         "list" [First("FILE"), Any("FLIGHT"), Flag("csv"), Flag("dates"), Valued("from", "DATE"),
@@ -556,6 +560,10 @@ const WORDS: &[(Told, &str)] = &[
     (
         Name("FLIGHT"),
         "A flight such as LX544, or 544 for one of the file's airline",
+    ),
+    (
+        Name("FLIGHT/DATE"),
+        "More flights, if any, and then the date, such as 07JUL25",
     ),
     (
         Name("DATE"),

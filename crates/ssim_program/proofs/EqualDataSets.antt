@@ -46,7 +46,7 @@ use Rattle.ssim_command_line.specs.Line.{Problems as ProblemsOf, Tidy}
 use Rattle.ssim_program.specs.Acts.{Act, Print, printed_by, prints}
 use Rattle.ssim_program.specs.Answer.{Answer, Finds, Gives, OneOr, OrElse, Require, ◌>>=◌}
 use Rattle.ssim_program.specs.Answers.{compared, desk_page}
-use Rattle.ssim_program.specs.Desks.{desk_in, flight_date, other_airline}
+use Rattle.ssim_program.specs.Desks.{desk_in, other_airline}
 use Rattle.ssim_program.specs.EqualFiles.{AreAlike, AreOneRefusal, DoesTheSame, DoesTheSameOfPairs}
 use Rattle.ssim_program.specs.EqualFiles.{PrintTheSame, PrintsTheSame}
 use Rattle.ssim_program.specs.Exports.{HasNoExport, RefusesExport, export_in}
@@ -105,7 +105,7 @@ module _ (frames : FramesAreOne) (one_base : SameBytesSameBase) where
       (subst (λ (ns : List Note). AreLinesOn that.0 ns lines) equal.1
       (subst (λ (rs : List Record). AreLinesOn rs set.1 lines) equal.0 is)) are)))
 
--- the lines of some problems of so many records
+-- the lines of some problems of a number of records
 abbrev lines_of : ℕ → List BaseFault → List ℕ
 lines_of records faults =
     flat_map problem_line faults ++ line

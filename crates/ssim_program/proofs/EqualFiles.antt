@@ -1,7 +1,7 @@
 -- Equal files are read as one value, and what a command makes of it has one outcome. So what it prints
 -- is the same, or its refusal is.
 use Rattle.std.proofs.Common.{◌≡◌, ◌∙◌, ◌⊎◌, inl, inr, ℕ, true, List, [], ◌∷◌, ◌++◌, Option, Some}
-use Rattle.std.proofs.Common.{None, Ok, Err, length, refl, sym, ap, ap₂, subst}
+use Rattle.std.proofs.Common.{None, Ok, Err, length, map, refl, sym, ap, ap₂, subst}
 use Rattle.std.specs.Prelude.{All}
 use Rattle.std.specs.List.{flat_map}
 use Rattle.ssim_values.specs.Flight.{FlightNumber}
@@ -13,9 +13,9 @@ use Rattle.ssim_records.specs.Carrier.{CarrierFields}
 use Rattle.ssim_records.specs.Frames.{FramesAreOne}
 use Rattle.ssim_records.specs.declared.record.Record.{Record}
 use Rattle.ssim_records.specs.declared.record.Record.TheVariants.{Header, Carrier}
-use Rattle.ssim_words.proofs.OneFlight.{name_once, names_one}
+use Rattle.ssim_words.proofs.OneFlight.{name_once}
 use Rattle.ssim_words.specs.Date.{typed_day}
-use Rattle.ssim_words.specs.Flight.{NameEach, NamesFlight}
+use Rattle.ssim_words.specs.Flight.{NameEach}
 use Rattle.ssim_words.specs.Typed.{typed}
 use Rattle.ssim_text.specs.Reference.{OneReference}
 use Rattle.ssim_base.specs.Base.{airline_of}
@@ -32,6 +32,7 @@ use Rattle.ssim_schedule.specs.declared.export.ExportFault.{ExportFault}
 use Rattle.ssim_schedule.specs.declared.export.ExportFault.TheVariants as export
 use Rattle.ssim_held.specs.Entries.{DeskSeen, Entry, map_of}
 use Rattle.ssim_held.specs.File.{NoTwoDesks}
+use Rattle.ssim_schedule.specs.FlightPieces.{in_order}
 use Rattle.ssim_desk.specs.DateSteps.{steps_on}
 use Rattle.ssim_desk.specs.Desk.{days_of_desk, entry_lines}
 use Rattle.ssim_desk.specs.Meaning.{found_by, left_by}
@@ -47,20 +48,22 @@ use Rattle.ssim_command_line.specs.Line.{Problems as ProblemsOf, Tidy}
 use Rattle.ssim_program.specs.Acts.{Act, Print, printed_by, prints}
 use Rattle.ssim_program.specs.Answer.{Answer, Finds, Gives, OneOr, OrElse, Require, ◌>>=◌}
 use Rattle.ssim_program.specs.Answers.{compared, desk_page}
-use Rattle.ssim_program.specs.Desks.{desk_in, flight_date, other_airline}
+use Rattle.ssim_program.specs.Desks.{desk_in, other_airline}
 use Rattle.ssim_program.specs.EqualFiles.{AreAlike, AreOneRefusal, DoesTheSame, DoesTheSameOfPairs}
 use Rattle.ssim_program.specs.EqualFiles.{PrintTheSame, PrintsTheSame}
 use Rattle.ssim_program.specs.Exports.{HasNoExport, RefusesExport, export_in}
 use Rattle.ssim_program.specs.Files.{Files}
 use Rattle.ssim_program.specs.Made.{AreLinesOn, IsExport, data_set_in, problem_line, problem_lines}
 use Rattle.ssim_program.specs.Made.{problems_in, summary_lines}
-use Rattle.ssim_program.specs.Messages.{IsOf, flights_in, message_texts, messages_on}
+use Rattle.ssim_program.specs.Messages.{IsOf, but_last, flights_in, flights_on, last_of, message_texts}
+use Rattle.ssim_program.specs.Messages.{messages_on}
 use Rattle.ssim_program.specs.Offices.{IsSameFile}
 use Rattle.ssim_program.specs.Timetables.{HasCarrier, carrier_of, shown_in, timetable_in}
 use Rattle.ssim_program.specs.Withdrawing.{Withdraws}
 use Rattle.ssim_program.specs.print.PrintedLine.{printed_text}
 use Rattle.ssim_program.specs.print.Refusal.{IsMemory, refusal_number}
-use Rattle.ssim_program.specs.print.Shown.{findings_lines, history_lines, shown_flight}
+use Rattle.ssim_program.specs.print.Blocks.{blocks}
+use Rattle.ssim_program.specs.print.Shown.{findings_lines, history_on, shown_on}
 use Rattle.ssim_program.specs.declared.print.printed_line.PrintedLine.TheVariants as printed_line
 use Rattle.ssim_program.specs.declared.refusal.Refusal.{Refusal}
 use Rattle.ssim_program.specs.declared.refusal.Refusal.TheVariants as refused
@@ -109,53 +112,57 @@ flights_alike airline other words same =
     (one_or_alike (NameEach airline words) (refused.Value value_fault.BadDesignator)
     (name_once airline words)) (of_airline_alike airline)))
 
--- a flight of one airline and a date, from the flight on
-abbrev on_day : List ℕ → Designator → ℕ → Answer (Designator × ℕ)
-on_day airline flight day = do
-  here ← Require (flight.airline ≡ airline) other_airline
-  Gives (flight, day)
+-- flights of one airline and a date, from the flights on
+abbrev on_day : List ℕ → List Designator → ℕ → Answer (List FlightNumber × ℕ)
+on_day airline flights day = do
+  here ← Require (All (IsOf airline) flights) other_airline
+  Gives (map (λ d. d.flight) flights, day)
 
-abbrev on_date : List ℕ → Text → Designator → Answer (Designator × ℕ)
-on_date airline date flight =
-    OrElse (typed_day date) (refused.Value value_fault.BadDate) >>= on_day airline flight
+abbrev on_date : List ℕ → Text → List Designator → Answer (List FlightNumber × ℕ)
+on_date airline date flights =
+    OrElse (typed_day date) (refused.Value value_fault.BadDate) >>= on_day airline flights
 
-on_day_alike : (airline : List ℕ) (flight : Designator) (day other : ℕ) → day ≡ other
-    → AreAlike Equal (on_day airline flight day) (on_day airline flight other)
-on_day_alike airline flight day other same =
-    then_alike Nothing Equal (Require (flight.airline ≡ airline) other_airline)
-    (Require (flight.airline ≡ airline) other_airline) (λ here. Gives (flight, day))
-    (λ here. Gives (flight, other))
-    (require_alike (flight.airline ≡ airline) other_airline)
-    (λ x y both. gives_alike (flight, day) (flight, other) (ap (λ (n : ℕ). (flight, n)) same))
+on_day_alike : (airline : List ℕ) (flights : List Designator) (day other : ℕ) → day ≡ other
+    → AreAlike Equal (on_day airline flights day) (on_day airline flights other)
+on_day_alike airline flights day other same =
+    let numbers = map (λ d. d.flight) flights in
+    then_alike Nothing Equal (Require (All (IsOf airline) flights) other_airline)
+    (Require (All (IsOf airline) flights) other_airline) (λ here. Gives (numbers, day))
+    (λ here. Gives (numbers, other))
+    (require_alike (All (IsOf airline) flights) other_airline)
+    (λ x y both. gives_alike (numbers, day) (numbers, other) (ap (λ (n : ℕ). (numbers, n)) same))
 
-on_date_alike : (airline : List ℕ) (date : Text) (flight other : Designator) → flight ≡ other
-    → AreAlike Equal (on_date airline date flight) (on_date airline date other)
-on_date_alike airline date flight other same =
-    subst (λ (d : Designator). AreAlike Equal (on_date airline date flight) (on_date airline date d))
-    same
+on_date_alike : (airline : List ℕ) (date : Text) (flights others : List Designator)
+    → flights ≡ others
+    → AreAlike Equal (on_date airline date flights) (on_date airline date others)
+on_date_alike airline date flights others same =
+    subst (λ (ds : List Designator).
+    AreAlike Equal (on_date airline date flights) (on_date airline date ds)) same
     (then_alike Equal Equal (OrElse (typed_day date) (refused.Value value_fault.BadDate))
-    (OrElse (typed_day date) (refused.Value value_fault.BadDate)) (on_day airline flight)
-    (on_day airline flight)
-    (or_else_alike (typed_day date) (refused.Value value_fault.BadDate)) (on_day_alike airline flight))
+    (OrElse (typed_day date) (refused.Value value_fault.BadDate)) (on_day airline flights)
+    (on_day airline flights)
+    (or_else_alike (typed_day date) (refused.Value value_fault.BadDate))
+    (on_day_alike airline flights))
 
-abbrev named_on : List ℕ → Text → Text → Unit {0} → Answer (Designator × ℕ)
-named_on airline flight date room =
-    OneOr (NamesFlight airline flight) (refused.Value value_fault.BadDesignator) >>= on_date airline
-    date
+abbrev named_on : List ℕ → Text → List Text → Unit {0} → Answer (List FlightNumber × ℕ)
+named_on airline word words room =
+    OneOr (NameEach airline (but_last word words)) (refused.Value value_fault.BadDesignator)
+    >>= on_date airline (last_of word words)
 
-date_alike : (airline other : List ℕ) (flight date : Text) → airline ≡ other
-    → AreAlike Equal (flight_date airline flight date) (flight_date other flight date)
-date_alike airline other flight date same =
-    subst (λ (a : List ℕ). AreAlike Equal (flight_date airline flight date)
-    (flight_date a flight date)) same
-    (then_alike Equal Equal (Gives (tt {0})) (Gives (tt {0})) (named_on airline flight date)
-    (named_on airline flight date) (gives_alike (tt {0}) (tt {0}) refl)
-    (λ x y both. then_alike Equal Equal
-    (OneOr (NamesFlight airline flight) (refused.Value value_fault.BadDesignator))
-    (OneOr (NamesFlight airline flight) (refused.Value value_fault.BadDesignator))
-    (on_date airline date) (on_date airline date)
-    (one_or_alike (NamesFlight airline flight) (refused.Value value_fault.BadDesignator)
-    (names_one airline flight)) (on_date_alike airline date)))
+date_alike : (airline other : List ℕ) (word : Text) (words : List Text) → airline ≡ other
+    → AreAlike Equal (flights_on airline word words) (flights_on other word words)
+date_alike airline other word words same =
+    let named : Answer (List Designator) =
+    OneOr (NameEach airline (but_last word words)) (refused.Value value_fault.BadDesignator) in
+    subst (λ (a : List ℕ). AreAlike Equal (flights_on airline word words)
+    (flights_on a word words)) same
+    (then_alike Equal Equal (Gives (tt {0})) (Gives (tt {0})) (named_on airline word words)
+    (named_on airline word words) (gives_alike (tt {0}) (tt {0}) refl)
+    (λ x y both. then_alike Equal Equal named named
+    (on_date airline (last_of word words)) (on_date airline (last_of word words))
+    (one_or_alike (NameEach airline (but_last word words))
+    (refused.Value value_fault.BadDesignator) (name_once airline (but_last word words)))
+    (on_date_alike airline (last_of word words))))
 
 -- ---- carrier records
 
@@ -283,20 +290,22 @@ texts_of words desk = do
   flights ← flights_in (airline_of desk.base.records) words
   Gives (message_texts (messages_on flights desk.held))
 
--- the lines that are made of a flight on a date
-abbrev dated : (DeskSeen → Designator × ℕ → List ℕ) → Text → Text → DeskSeen → Answer (List ℕ)
-dated lines flight date desk = do
-  named ← flight_date (airline_of desk.base.records) flight date
+-- the lines that are made of flights on a date
+abbrev dated : (DeskSeen → List FlightNumber × ℕ → List ℕ) → Text → List Text → DeskSeen
+    → Answer (List ℕ)
+dated lines word words desk = do
+  named ← flights_on (airline_of desk.base.records) word words
   Gives (lines desk named)
 
-abbrev shown_lines : DeskSeen → Designator × ℕ → List ℕ
+abbrev shown_lines : DeskSeen → List FlightNumber × ℕ → List ℕ
 shown_lines desk named =
-    shown_flight named.0 named.1 (left_by desk.base desk.held named.0.flight named.1)
+    blocks (map (shown_on (airline_of desk.base.records) (left_by desk.base desk.held) named.1)
+    (in_order named.0))
 
-abbrev lines_of_history : DeskSeen → Designator × ℕ → List ℕ
+abbrev lines_of_history : DeskSeen → List FlightNumber × ℕ → List ℕ
 lines_of_history desk named =
-    history_lines named.0 named.1 (itinerary desk.base.records named.0.flight named.1)
-    (steps_on desk named.0.flight named.1)
+    blocks (map (history_on (airline_of desk.base.records) (itinerary desk.base.records)
+    (steps_on desk) named.1) (in_order named.0))
 
 abbrev findings_of : DeskSeen → Answer (List ℕ)
 findings_of desk = Gives (findings_lines (entry_lines desk.held (found_by desk.base desk.held)))
@@ -442,35 +451,36 @@ module _ (frames : FramesAreOne) (one_base : SameBytesSameBase) (no_two : NoTwoD
       (timetable_alike files others name another same frames one_base no_two) on)
 
   -- what is made of a flight on a date of equal files is alike
-  of_shown : (lines : DeskSeen → Designator × ℕ → List ℕ)
-      → ((desk other : DeskSeen) (named that : Designator × ℕ) → SameDesk desk other → named ≡ that
-      → lines desk named ≡ lines other that)
-      → (flight date : Text) (files others : Files) (name another : Text)
+  of_shown : (lines : DeskSeen → List FlightNumber × ℕ → List ℕ)
+      → ((desk other : DeskSeen) (named that : List FlightNumber × ℕ) → SameDesk desk other
+      → named ≡ that → lines desk named ≡ lines other that)
+      → (word : Text) (words : List Text) (files others : Files) (name another : Text)
       → IsSameFile files name others another
-      → AreAlike PrintTheSame (prints (shown_in (Some files) name >>= dated lines flight date))
-      (prints (shown_in (Some others) another >>= dated lines flight date))
-  of_shown lines are flight date files others name another same =
+      → AreAlike PrintTheSame (prints (shown_in (Some files) name >>= dated lines word words))
+      (prints (shown_in (Some others) another >>= dated lines word words))
+  of_shown lines are word words files others name another same =
       let mine = shown_in (Some files) name in
       let theirs = shown_in (Some others) another in
-      let next = dated lines flight date in
+      let next = dated lines word words in
       prints_alike (mine >>= next) (theirs >>= next)
       (then_alike SameDesk Equal mine theirs next next
       (shown_alike files others name another same frames one_base no_two)
       (λ desk other one. then_alike Equal Equal
-      (flight_date (airline_of desk.base.records) flight date)
-      (flight_date (airline_of other.base.records) flight date) (λ named. Gives (lines desk named))
+      (flights_on (airline_of desk.base.records) word words)
+      (flights_on (airline_of other.base.records) word words) (λ named. Gives (lines desk named))
       (λ named. Gives (lines other named))
-      (date_alike (airline_of desk.base.records) (airline_of other.base.records) flight date
+      (date_alike (airline_of desk.base.records) (airline_of other.base.records) word words
       (airlines_same desk other one))
       (λ named that both. gives_alike (lines desk named) (lines other that)
       (are desk other named that one both))))
 
-  pub show_alike : (flight date : Text) → DoesTheSame (λ file. Show file flight date)
+  pub show_alike : (flight : Text) (words : List Text)
+      → DoesTheSame (λ file. Show file flight words)
   show_alike = of_shown shown_lines (λ desk other named that one both.
-      λ i. shown_flight (both i).0 (both i).1
-      (left_by (one.0 i) (one.1 i) (both i).0.flight (both i).1))
+      λ i. shown_lines (seen (one.0 i) (one.1 i)) (both i))
 
-  pub history_alike : (flight date : Text) → DoesTheSame (λ file. History file flight date)
+  pub history_alike : (flight : Text) (words : List Text)
+      → DoesTheSame (λ file. History file flight words)
   history_alike = of_shown lines_of_history (λ desk other named that one both.
       λ i. lines_of_history (seen (one.0 i) (one.1 i)) (both i))
 

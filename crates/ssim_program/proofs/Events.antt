@@ -201,9 +201,9 @@ module _ (old new : Files) (acts done later : List Act) (split : acts ≡ done +
       (λ is. (acts, (tt, may, (one, read, (after, withdraws, (rising, are)))), ap is_whole are, is))
   of_line (line.Texts desk flights) (bytes, is, are) =
       looks _ old new acts done later split left (ap kept_by are)
-  of_line (line.Show desk flight date) (bytes, is, are) =
+  of_line (line.Show desk flight words) (bytes, is, are) =
       looks _ old new acts done later split left (ap kept_by are)
-  of_line (line.History desk flight date) (bytes, is, are) =
+  of_line (line.History desk flight words) (bytes, is, are) =
       looks _ old new acts done later split left (ap kept_by are)
   of_line (line.Board file station date) (bytes, is, are) =
       looks _ old new acts done later split left (ap kept_by are)

@@ -41,6 +41,8 @@ pub mod CarriedFiles
 pub mod ChoiceSteps
 pub mod ChosenDates
 pub mod BlockLines
+pub mod FlightAlone
+pub mod WordsOn
 pub mod Verdict
 pub mod FirstProblem
 pub mod Timetables

@@ -41,21 +41,22 @@ use Rattle.ssim_program.specs.Converting.{converted, mode_named}
 use Rattle.ssim_program.specs.Exports.{ReadsAsItself, export_in}
 use Rattle.ssim_program.specs.Answer.{Answer, Finds, Gives, Known, OrElse, Require, ◌>>=◌}
 use Rattle.ssim_program.specs.Choices.{choice_in}
-use Rattle.ssim_program.specs.Desks.{desk_in, flight_date, held_line, merged, text_taken}
+use Rattle.ssim_program.specs.Desks.{desk_in, held_line, merged, text_taken}
 use Rattle.ssim_program.specs.Explained.{Explains}
 use Rattle.ssim_program.specs.Files.{Files}
 use Rattle.ssim_program.specs.Made.{AreLinesOn, base_in, data_set_in, problem_lines, problems_in}
 use Rattle.ssim_program.specs.Made.{RefusesLoad}
-use Rattle.ssim_program.specs.Messages.{flights_in, message_texts, messages_on}
+use Rattle.ssim_program.specs.Messages.{flights_in, flights_on, message_texts, messages_on}
 use Rattle.ssim_program.specs.Places.{place_in}
 use Rattle.ssim_program.specs.Receiving.{places_in, receipt_lines, received, received_files}
 use Rattle.ssim_program.specs.Timetables.{carrier_of, shown_in, timetable_in}
 use Rattle.ssim_program.specs.Withdrawing.{withdrawn}
 use Rattle.ssim_program.specs.rehearse.Rehearsal.{RehearsesFiles, RefusesLines}
+use Rattle.ssim_program.specs.print.Blocks.{blocks}
 use Rattle.ssim_program.specs.print.Calendar.{calendars}
 use Rattle.ssim_program.specs.print.Listing.{printed_list}
 use Rattle.ssim_program.specs.print.Page.{message_articles}
-use Rattle.ssim_program.specs.print.Shown.{findings_lines, history_lines, shown_flight}
+use Rattle.ssim_program.specs.print.Shown.{findings_lines, history_on, shown_on}
 use Rattle.ssim_program.specs.declared.content_kind.ContentKind.TheVariants as kind
 use Rattle.ssim_program.specs.declared.refusal.Refusal.TheVariants as refused
 
@@ -152,20 +153,21 @@ texts files file words = do
   flights ← flights_in (airline_of desk.base.records) words
   Gives (message_texts (messages_on flights desk.held))
 
--- a flight on a date
-abbrev pub show : Option Files → Text → Text → Text → Answer (List ℕ)
-show files file flight date = do
+-- flights on a date, by number and then by suffix, each once, with an empty line between two
+abbrev pub show : Option Files → Text → Text → List Text → Answer (List ℕ)
+show files file flight words = do
   desk ← shown_in files file
-  named ← flight_date (airline_of desk.base.records) flight date
-  Gives (shown_flight named.0 named.1 (timetable_of desk named.0.flight named.1))
+  named ← flights_on (airline_of desk.base.records) flight words
+  Gives (blocks (map (shown_on (airline_of desk.base.records) (timetable_of desk) named.1)
+      (in_order named.0)))
 
--- what the data set has for a flight on a date, and what each sub-message did with it
-abbrev pub history : Option Files → Text → Text → Text → Answer (List ℕ)
-history files file flight date = do
+-- what the data set has for flights on a date, and what each sub-message did with it
+abbrev pub history : Option Files → Text → Text → List Text → Answer (List ℕ)
+history files file flight words = do
   desk ← shown_in files file
-  named ← flight_date (airline_of desk.base.records) flight date
-  Gives (history_lines named.0 named.1 (itinerary desk.base.records named.0.flight named.1)
-      (steps_on desk named.0.flight named.1))
+  named ← flights_on (airline_of desk.base.records) flight words
+  Gives (blocks (map (history_on (airline_of desk.base.records) (itinerary desk.base.records)
+      (steps_on desk) named.1) (in_order named.0)))
 
 -- what each sub-message found
 abbrev pub findings : Option Files → Text → Answer (List ℕ)
@@ -331,8 +333,8 @@ answers (Merge file other out) files = merge files file other out
 answers (Carry file other out) files = carry files file other out
 answers (Withdraw file out references) files = withdraw files file out references
 answers (Texts file flights) files = prints (texts files file flights)
-answers (Show file flight date) files = prints (show files file flight date)
-answers (History file flight date) files = prints (history files file flight date)
+answers (Show file flight words) files = prints (show files file flight words)
+answers (History file flight words) files = prints (history files file flight words)
 answers (Board file station date) files = prints (board files file station date)
 answers (Listing form words file flights) files = prints (list files form words file flights)
 answers (Calendar words file flights) files = prints (calendar files words file flights)

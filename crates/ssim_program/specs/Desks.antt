@@ -1,13 +1,9 @@
 -- What the commands on desk files read, make and print, and why they are refused.
-use Rattle.std.specs.Prelude.{◌≡◌, ◌⊎◌, ℕ, List, Option}
+use Rattle.std.specs.Prelude.{◌≡◌, ℕ, List, Option}
 use Rattle.std.specs.Prelude.{Ok, Err}
-use Rattle.ssim_values.specs.declared.designator.Designator.{Designator}
-use Rattle.ssim_values.specs.declared.fault.Fault.TheVariants as value_fault
 use Rattle.ssim_base.specs.BaseSeen.{BaseSeen}
 use Rattle.ssim_base.specs.Export.{line}
 use Rattle.ssim_base.specs.declared.resolution.ResolveFault.TheVariants as resolve_fault
-use Rattle.ssim_words.specs.Date.{typed_day}
-use Rattle.ssim_words.specs.Flight.{NamesFlight}
 use Rattle.ssim_text.specs.Message.{MessageValue}
 use Rattle.ssim_text.specs.declared.reference.Reference.{Reference}
 use Rattle.ssim_held.specs.File.{IsDeskFile}
@@ -22,7 +18,7 @@ use Rattle.ssim_desk.specs.declared.desk.Took.TheVariants as took
 use Rattle.ssim_desk.specs.declared.steps.Answer.TheVariants.{Merged}
 use Rattle.ssim_program.specs.Files.{Files}
 use Rattle.ssim_command_line.specs.Line.{Text}
-use Rattle.ssim_program.specs.Answer.{Answer, Gives, OneOr, OrElse, Require, ◌>>=◌}
+use Rattle.ssim_program.specs.Answer.{Answer, ◌>>=◌}
 use Rattle.ssim_program.specs.Made.{file_in}
 use Rattle.ssim_program.specs.print.PrintedLine.{printed_text}
 use Rattle.ssim_program.specs.declared.print.printed_line.PrintedLine.{PrintedLine}
@@ -102,12 +98,3 @@ merged mine theirs (Err why) = (fault : DeskFault)
 -- the flight of a designator is another airline's
 abbrev pub other_airline : Refusal
 other_airline = refused.Desk (desk_fault.Resolve (resolve_fault.Airline 0))
-
--- the flight of the airline, and the date, that two words name
-abbrev pub flight_date : List ℕ → Text → Text → Answer (Designator × ℕ)
-flight_date airline flight date = do
-  room ← Gives (tt {0})
-  designator ← OneOr (NamesFlight airline flight) (refused.Value value_fault.BadDesignator)
-  day ← OrElse (typed_day date) (refused.Value value_fault.BadDate)
-  here ← Require (designator.airline ≡ airline) other_airline
-  Gives (designator, day)

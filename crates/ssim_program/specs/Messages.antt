@@ -1,5 +1,6 @@
 -- The messages of a desk that a command prints, and the flights by which they are chosen.
 use Rattle.std.specs.Prelude.{◌≡◌, ℕ, Bool, true, List, [], ◌∷◌, All, filter, map}
+use Rattle.ssim_values.specs.Flight.{FlightNumber}
 use Rattle.std.specs.List.{AllByRecursion, join_by, list_any}
 use Rattle.ssim_values.specs.declared.designator.Designator.{Designator}
 use Rattle.ssim_values.specs.declared.fault.Fault.TheVariants as value_fault
@@ -7,11 +8,12 @@ use Rattle.ssim_text.specs.Canonical.{canonical}
 use Rattle.ssim_base.specs.Timetable.{same_flight}
 use Rattle.ssim_text.specs.Message.{MessageValue}
 use Rattle.ssim_mailbox.specs.Texts.{texts_in}
+use Rattle.ssim_words.specs.Date.{typed_day}
 use Rattle.ssim_words.specs.Flight.{NameEach}
 use Rattle.ssim_held.specs.Entries.{Entry}
 use Rattle.ssim_outbox.specs.MailFile.{IsMail, mail_texts}
 use Rattle.ssim_command_line.specs.Line.{Text}
-use Rattle.ssim_program.specs.Answer.{Answer, Gives, OneOr, Require, ◌>>=◌}
+use Rattle.ssim_program.specs.Answer.{Answer, Gives, OneOr, OrElse, Require, ◌>>=◌}
 use Rattle.ssim_program.specs.Desks.{other_airline}
 use Rattle.ssim_program.specs.declared.refusal.Refusal.TheVariants as refused
 
@@ -29,6 +31,27 @@ flights_in airline words = do
   flights ← OneOr (NameEach airline words) (refused.Value value_fault.BadDesignator)
   here ← Require (All (IsOf airline) flights) other_airline
   Gives flights
+
+-- of a first word and those after it, all but the last; the last
+abbrev pub but_last : Text → List Text → List Text
+but_last first [] = []
+but_last first (word ∷ words) = first ∷ but_last word words
+
+abbrev pub last_of : Text → List Text → Text
+last_of first [] = first
+last_of first (word ∷ words) = last_of word words
+
+-- The flights of the airline that all words but the last name, and the date that the last word
+-- spells. A word that names no flight is refused before the date, and that before a flight of another
+-- airline.
+abbrev pub flights_on : List ℕ → Text → List Text → Answer (List FlightNumber × ℕ)
+flights_on airline word words = do
+  room ← Gives (tt {0})
+  flights ← OneOr (NameEach airline (but_last word words))
+      (refused.Value value_fault.BadDesignator)
+  day ← OrElse (typed_day (last_of word words)) (refused.Value value_fault.BadDate)
+  here ← Require (All (IsOf airline) flights) other_airline
+  Gives (map (λ d. d.flight) flights, day)
 
 -- ---- the messages that name one of them
 

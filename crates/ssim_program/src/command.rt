@@ -16,6 +16,7 @@ pub(crate) mod convert;
 pub(crate) mod diff;
 pub(crate) mod export;
 pub(crate) mod findings;
+pub(crate) mod flight_order;
 pub(crate) mod history;
 pub(crate) mod list;
 pub(crate) mod merge;
@@ -95,12 +96,16 @@ pub(crate) fn make<'r, S: Store>(
         Request::Check { dataset } => lines(check::check(alloc, dataset, store)),
         Request::Problems { dataset } => lines(problems::problems(alloc, dataset, store)),
         Request::Texts { desk, flights } => lines(texts::texts(alloc, desk, flights, store)),
-        Request::Show { file, flight, date } => {
-            lines(show::show_flight(alloc, file, flight, date, store))
-        }
-        Request::History { file, flight, date } => {
-            lines(history::history(alloc, file, flight, date, store))
-        }
+        Request::Show {
+            file,
+            flight,
+            words,
+        } => lines(show::show(alloc, file, flight, words, store)),
+        Request::History {
+            file,
+            flight,
+            words,
+        } => lines(history::history(alloc, file, flight, words, store)),
         Request::Board {
             file,
             station,

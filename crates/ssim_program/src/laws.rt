@@ -96,8 +96,10 @@ pub fn equal_desk_files_do_the_same()
 /// `diff` and `page` of two pairs of equal files. `convert` keeps the same data set, and prints the
 /// same.
 pub fn equal_timetables_do_the_same()
-    ensures show { (flight date : Text) → DoesTheSame (λ file. Show file flight date) }
-    ensures history { (flight date : Text) → DoesTheSame (λ file. History file flight date) }
+    ensures show { (flight : Text) (words : List Text)
+        → DoesTheSame (λ file. Show file flight words) }
+    ensures history { (flight : Text) (words : List Text)
+        → DoesTheSame (λ file. History file flight words) }
     ensures board { (station date : Text) → DoesTheSame (λ file. Board file station date) }
     ensures list { (form : ListForm) (words : ChoiceTexts) (flights : List Text)
         → DoesTheSame (λ file. Listing form words file flights) }

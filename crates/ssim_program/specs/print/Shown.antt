@@ -4,6 +4,7 @@ use Rattle.std.specs.Fmt.{decimal}
 use Rattle.std.specs.List.{flat_map}
 use Rattle.ssim_values.specs.Day.{day_text}
 use Rattle.ssim_values.specs.Designator.{designator_text}
+use Rattle.ssim_values.specs.Flight.{FlightNumber}
 use Rattle.ssim_values.specs.declared.designator.Designator.{Designator}
 use Rattle.ssim_text.specs.Lines.{identifier_text}
 use Rattle.ssim_text.specs.Reference.{printed_reference}
@@ -30,6 +31,11 @@ leg_lines (leg ∷ legs) = flat_map leg_line (leg ∷ legs)
 abbrev pub shown_flight : Designator → ℕ → Legs → List ℕ
 shown_flight designator day legs =
     line (designator_text designator ++ 32 ∷ day_text day) ++ leg_lines legs
+
+-- the lines of a flight of an airline on a date, by a timetable
+abbrev pub shown_on : List ℕ → (FlightNumber → ℕ → Legs) → ℕ → FlightNumber → List ℕ
+shown_on airline timetable day flight =
+    shown_flight (record { airline = airline; flight = flight }) day (timetable flight day)
 
 -- ---- the history of a flight on a date
 
@@ -73,6 +79,13 @@ abbrev pub history_lines : Designator → ℕ → Legs → List DateStep → Lis
 history_lines designator day first steps =
     line (designator_text designator ++ 32 ∷ day_text day) ++ line (codes "data set")
     ++ indented_lines [] first ++ step_lines first steps
+
+-- the history of a flight of an airline on a date, by its legs in the data set and its sub-messages
+abbrev pub history_on : List ℕ → (FlightNumber → ℕ → Legs) → (FlightNumber → ℕ → List DateStep)
+    → ℕ → FlightNumber → List ℕ
+history_on airline first steps day flight =
+    history_lines (record { airline = airline; flight = flight }) day (first flight day)
+    (steps flight day)
 
 -- a line for each sub-message
 abbrev pub findings_lines : List FindingLine → List ℕ

@@ -14,6 +14,7 @@ ghost use Rattle.ssim_program.specs.print.Calendar.{lettered};
 
 use crate::command::choice::choice_in;
 use crate::command::chosen::chosen_schedule;
+use crate::command::flight_order::in_order;
 use crate::print::blocks::joined;
 use crate::refusal::Refusal;
 use crate::store::Store;
@@ -22,7 +23,7 @@ use ssim_calendar::{push_legend, push_picture};
 use ssim_command_line::ChoiceWords;
 use ssim_listing::{is_like_one, mark_of, push_leg_text};
 use ssim_periods::Periods;
-use ssim_schedule::{Itinerary, PlacedLeg, Schedule, flights_in_order};
+use ssim_schedule::{Itinerary, PlacedLeg, Schedule};
 use ssim_values::{Airline, Designator, Flight, Memory};
 use std::alloc::Global;
 
@@ -45,7 +46,7 @@ pub(crate) fn calendar<S: Store>(
     let desk = open_timetable(alloc, file, store)?;
     let airline = desk.data_set().airline();
     let choice = choice_in(alloc, airline, words, flights)?;
-    let flights = flights_in_order(alloc, &choice.flights)?;
+    let flights = in_order(alloc, &choice.flights)?;
     let schedule = chosen_schedule(&desk, &choice)?;
     let calendars = calendars_of(alloc, airline, &schedule, &flights)?;
     let lines = joined(alloc, &calendars)?;

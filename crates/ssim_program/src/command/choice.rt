@@ -111,7 +111,7 @@ fn are_turned(first: Day, last: Day) -> bool
 }
 
 /// The flights without their airline.
-fn numbers_of(alloc: Global, named: &[Designator]) -> Result<Vec<Flight>, Memory>
+pub(crate) fn numbers_of(alloc: Global, named: &[Designator]) -> Result<Vec<Flight>, Memory>
     ensures { IfOk result (λ flights. flights.items ≡ map (λ d. d.flight) named.now) }
 {
     let mut flights = Vec::with_capacity(alloc, named.len())?;

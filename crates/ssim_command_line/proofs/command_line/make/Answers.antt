@@ -1,7 +1,7 @@
 -- The values of a command with texts are two or more.
 use Rattle.std.proofs.Common.{◌≡◌, codes, refl, arith, rules, option_map}
 use Rattle.clap.specs.Words.{found_of, rows_of}
-use Rattle.ssim_command_line.specs.Line.{Receive, Take, Withdraw}
+use Rattle.ssim_command_line.specs.Line.{History, Receive, Show, Take, Withdraw}
 use Rattle.ssim_command_line.proofs.Rows.{several_made}
 use Rattle.ssim_command_line.proofs.command_line.make.Goals as goal
 
@@ -26,3 +26,17 @@ returns-in_ok-to_vec-in-len2-up-values-2 c =
     several_made Withdraw _ (codes "withdraw") (rows_of (found_of c.args.inner.now)) _ _ _ _ is
     (λ vs. refl) c.in-len3-up-values-2.len_at_least
     (c.in_ok-to_vec-in-len2-up-values-2.ensures.items_if_clones_equal (λ x y e. e)) (omega arith)
+
+pub returns-in_ok-to_vec-in-len2-up-values-3 : goal.returns-in_ok-to_vec-in-len2-up-values-3
+returns-in_ok-to_vec-in-len2-up-values-3 c =
+    let is : c.args.name.now ≡ codes "show" = search rules in
+    several_made Show _ (codes "show") (rows_of (found_of c.args.inner.now)) _ _ _ _ is
+    (λ vs. refl) c.in-len3-up-values-3.len_at_least
+    (c.in_ok-to_vec-in-len2-up-values-3.ensures.items_if_clones_equal (λ x y e. e)) (omega arith)
+
+pub returns-in_ok-to_vec-in-len2-up-values-4 : goal.returns-in_ok-to_vec-in-len2-up-values-4
+returns-in_ok-to_vec-in-len2-up-values-4 c =
+    let is : c.args.name.now ≡ codes "history" = search rules in
+    several_made History _ (codes "history") (rows_of (found_of c.args.inner.now)) _ _ _ _ is
+    (λ vs. refl) c.in-len3-up-values-4.len_at_least
+    (c.in_ok-to_vec-in-len2-up-values-4.ensures.items_if_clones_equal (λ x y e. e)) (omega arith)

@@ -102,16 +102,22 @@ pub returns-in-Show-clause-answer : goal.returns-in-Show-clause-answer
 returns-in-Show-clause-answer g c = let old = g.S.Store.files c.args.store.now in
     made_of _ _ _ _ _ c.in-Show.is
     (lines_of g.S.Hold.Hold.file old
-    (answer.show old c.in-Show.file.now c.in-Show.flight.now c.in-Show.date.now)
-    c.show_flight.result c.lines-in-Show.result c.show_flight.ensures.answer
+    (answer.show old c.in-Show.file.now c.in-Show.flight.now
+    (map (λ t. t.now) c.in-Show.words.items)) c.show.result c.lines-in-Show.result
+    (subst (λ (words : List (Bor (List ℕ))). Answers
+    (answer.show old c.in-Show.file.now c.in-Show.flight.now (map (λ t. t.now) words))
+    c.show.result) c.deref-in-Show.ensures.value c.show.ensures.answer)
     c.lines-in-Show.ensures)
 
 pub returns-in-History-clause-answer : goal.returns-in-History-clause-answer
 returns-in-History-clause-answer g c = let old = g.S.Store.files c.args.store.now in
     made_of _ _ _ _ _ c.in-History.is
     (lines_of g.S.Hold.Hold.file old
-    (answer.history old c.in-History.file.now c.in-History.flight.now c.in-History.date.now)
-    c.history.result c.lines-in-History.result c.history.ensures.answer
+    (answer.history old c.in-History.file.now c.in-History.flight.now
+    (map (λ t. t.now) c.in-History.words.items)) c.history.result c.lines-in-History.result
+    (subst (λ (words : List (Bor (List ℕ))). Answers
+    (answer.history old c.in-History.file.now c.in-History.flight.now (map (λ t. t.now) words))
+    c.history.result) c.deref-in-History.ensures.value c.history.ensures.answer)
     c.lines-in-History.ensures)
 
 pub returns-in-Board-clause-answer : goal.returns-in-Board-clause-answer

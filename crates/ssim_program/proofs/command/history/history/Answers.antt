@@ -1,23 +1,45 @@
--- The words name a flight and a date, or not.
-use Rattle.std.proofs.Common.{◌≡◌, ◌∙◌, Err, List, ap₂, inl, inr, rules}
-use Rattle.ssim_base.specs.Timetable.{Legs}
-use Rattle.ssim_desk.specs.declared.date_step.DateStep.{DateStep}
-use Rattle.ssim_program.specs.print.Shown.{history_lines}
+-- The words name flights and a date, or not.
+use Rattle.std.proofs.Common.{◌≡◌, ◌∙◌, Err, List, ℕ, Ok, ap, inl, inr, map, rules, subst}
+use Rattle.ssim_base.specs.Base.{airline_of}
+use Rattle.ssim_base.specs.Timetable.{itinerary}
+use Rattle.ssim_schedule.specs.FlightPieces.{in_order}
+use Rattle.ssim_desk.specs.DateSteps.{steps_on}
+use Rattle.ssim_program.specs.Messages.{flights_on}
+use Rattle.ssim_program.specs.print.Blocks.{blocks}
+use Rattle.ssim_program.specs.print.Shown.{history_on}
 use Rattle.ssim_program.proofs.command.history.history.Goals as goal
 
-pub returns-in_err-designator-clause-answer : goal.returns-in_err-designator-clause-answer
-returns-in_err-designator-clause-answer g c =
-    let is : c.from_residual-in_err-designator.result ≡ Err c.in_err-designator.field-0.0 = search rules in
-    rw is (inr (c.in_ok-desk.desk, c.in_ok-desk.ensures.answer, inl c.in_err-designator.ensures))
+pub returns-in_err-named-clause-answer : goal.returns-in_err-named-clause-answer
+returns-in_err-named-clause-answer g c =
+    let why = c.in_err-named.field-0.0 in
+    let here = c.airline-airline.ensures ∙ ap airline_of c.data_set.ensures in
+    let is : c.from_residual-in_err-named.result ≡ Err why = search rules in
+    rw is (inr (
+      c.in_ok-desk.desk,
+      c.in_ok-desk.ensures.answer,
+      inl (subst (λ (a : List ℕ). flights_on a c.args.flight.now
+          (map (λ t. t.now) c.args.words.now) (Err why)) here c.in_err-named.ensures.err),
+    ))
 
 pub returns-clause-answer : goal.returns-clause-answer
 returns-clause-answer g c =
-    let designator = c.in_ok-designator.designator in let day = c.in_ok-designator.day in (
-      c.in_ok-desk.desk,
+    let desk = c.in_ok-desk.desk in
+    let numbers = c.in_ok-named.named.items in
+    let day = c.in_ok-named.day in
+    let airline = c.airline-airline.result in
+    let here = c.airline-airline.ensures ∙ ap airline_of c.data_set.ensures in
+    let of_one = λ (a : List ℕ). history_on a (itinerary desk.base.records) (steps_on desk) day in
+    let ordered =
+    c.deref-2.ensures.value ∙ c.in_ok-flights.ensures ∙ ap in_order c.deref.ensures.value in (
+      desk,
       c.in_ok-desk.ensures.answer,
       (
-        (designator, day),
-        c.in_ok-designator.ensures,
-        c.in_ok-lines.ensures ∙ ap₂ (λ (first : Legs) (steps : List DateStep). history_lines designator day first steps) c.in_ok-history.ensures.first c.in_ok-history.ensures.steps,
+        (numbers, day),
+        subst (λ (a : List ℕ). flights_on a c.args.flight.now
+            (map (λ t. t.now) c.args.words.now) (Ok (numbers, day))) here c.in_ok-named.ensures.ok,
+        c.in_ok-lines.ensures
+            ∙ ap blocks (ap (map (λ b. b.items)) c.deref-3.ensures.value
+            ∙ c.in_ok-histories.ensures ∙ ap (map (of_one airline)) ordered)
+            ∙ ap (λ (a : List ℕ). blocks (map (of_one a) (in_order numbers))) here,
       ),
     )
