@@ -1,17 +1,20 @@
-"""`list` and `calendar` with a choice of flight dates, beside a plain list of flight dates and beside `select`.
+"""`list` and `calendar` with a choice of flight dates, beside a plain list of flight dates and beside `select`; and several flights of a command.
 
 Each case has a data set or a desk, as in `parts`, and choices of its flights, dates, stations and aircraft types. Of the dates that `tidy` or
 `export` writes (flight_dates.py) each is taken or left by itself. `list`, in each of its forms, and `calendar` have to print what follows from
 those that are taken; and what they print of the data set that `select` writes with the same choice, byte for byte. In a case of `words` some
-words are invalid, and the refusal is that of the first of them by kind.
+words are invalid, and the refusal is that of the first of them by kind. In a case of `several` `show` of several flights has to print what
+follows from their dates, and `show`, `history` and `calendar` what they print of each flight alone.
 """
 import copy
+import datetime
 
 import parts
+from chapter7 import DAY, date
 from flight_dates import Timetable, calendar, listed, listed_dates, rows
-from room import said
+from room import Answer, said
 
-KINDS = ["choice", "choice", "choice", "words"]
+KINDS = ["choice", "choice", "choice", "several", "words"]
 FORMS = {(): listed, ("--dates",): listed_dates, ("--csv",): rows,
          ("--csv", "--dates"): lambda table, flights=None: rows(table, flights, True)}
 COMMANDS = [("list",), ("list", "--csv"), ("list", "--dates"), ("calendar",)]
@@ -64,6 +67,41 @@ def of_choice(rng, room, table, chosen):
         yield f"calendar of select {before} {words}", answer, room("calendar", "PART", *names)
 
 
+def shown(table, flights, day):
+    """The lines of `show` of several flights."""
+    return blocks([[f"{table.designator(flight)} {date(day)}"] + ([leg.line for leg in table.flights.get(flight, {}).get(day, ())] or ["no flight"])
+                   for flight in sorted(set(flights))])
+
+
+def together(answers):
+    """The answer of several blocks."""
+    return Answer(0, b"\n".join(answer.out for answer in answers), "")
+
+
+def of_several(rng, room, table):
+    """What is compared of several flights."""
+    flights = rng.choices([*table.flights, (1, " ")], k=rng.choice([1, 2, 3, 5]))
+    days = sorted({day for days in table.flights.values() for day in days}) or [datetime.date(2025, 7, 1)]
+    day = rng.choice(days) + rng.choice([0, 0, 0, -1, 1]) * DAY
+    names, in_order = [table.designator(flight) for flight in flights], [table.designator(flight) for flight in sorted(set(flights))]
+    room.counts["several flights" if len(in_order) > 1 else "one flight"] += 1
+    answer = room("show", "FILE", *names, date(day))
+    yield f"show {names} {day}", answer, said(shown(table, flights, day))
+    for command in "show", "history":
+        wanted = together([room(command, "FILE", name, date(day)) for name in in_order])
+        yield f"{command} {names} {day}", room(command, "FILE", *names, date(day)), wanted
+    yield f"calendar {names}", room("calendar", "FILE", *names), together([room("calendar", "FILE", name) for name in in_order])
+    wrong = {"Z7A": "6 BadDesignator", "XX123": "41 Airline sub 0"}
+    for command in "show", "history":
+        words = rng.sample([*wrong, *names], k=2)
+        fault = next((wrong[word] for word in wrong if word in words), None)
+        last = rng.choice([date(day), "32JAN27"])
+        if fault != "6 BadDesignator" and last == "32JAN27":
+            fault = "1 BadDate"
+        if fault:
+            yield f"{command} {words} {last}", room(command, "FILE", *words, last), Answer(1, b"", f"refused {fault}\n")
+
+
 def compared(rng, room, kind):
     if kind == "words":
         yield from parts.of_words(rng, room, *rng.choice(COMMANDS))
@@ -73,5 +111,8 @@ def compared(rng, room, kind):
         room.counts["not exported"] += 1
         return
     table = Timetable(whole)
+    if kind == "several":
+        yield from of_several(rng, room, table)
+        return
     for _ in range(3):
         yield from of_choice(rng, room, table, parts.choice(rng, table))

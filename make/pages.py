@@ -265,8 +265,8 @@ def manual(version, whole, pages):
 
 
 def values_of(page):
-    """The names of the values of a command, in order."""
-    return [re.sub(r"[^A-Z]", "", value) for value, _ in page.arguments]
+    """The names of the values of a command, in order; of two kinds, as FLIGHT/DATE, the first."""
+    return [re.sub(r"[^A-Z]", "", value.partition("/")[0]) for value, _ in page.arguments]
 
 
 def is_repeated(page):

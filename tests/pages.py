@@ -35,6 +35,7 @@ COMPLETED = [
     ("ssimdesk calendar --air", "--aircraft"),
     ("ssimdesk calendar --to 1jul27 a.ssim Z7101 Z734", "Z7341 Z7342 | FDH"),
     ("ssimdesk list --aircraft 320 a.ssim Z710", "Z7101 Z7102 | Z7111 FDH"),
+    ("ssimdesk show a.ssim Z7341 Z710", "Z7101 Z7102 | FDH"),
     ("ssimdesk board a.ssim H", "HAM | FDH Z7101"),
     ("ssimdesk board a.ssim HAM a", "| season.ssim"),
     ("ssimdesk convert lo", "local"),
