@@ -11,7 +11,8 @@ use Rattle.ssim_command_line.specs.Line.{Command, Line, Text, any_texts, command
 use Rattle.ssim_command_line.specs.Line.{one, one_and_several, one_and_texts, one_or_two}
 use Rattle.ssim_command_line.specs.Line.{one_or_two_values, one_value, three}
 use Rattle.ssim_command_line.specs.Line.{three_values, two, two_and_texts}
-use Rattle.ssim_command_line.specs.Line.{choice_of, choice_words, flag, form_of, optional, several_texts}
+use Rattle.ssim_command_line.specs.Line.{choice_of, choice_words, flag, form_of, is_given, optional}
+use Rattle.ssim_command_line.specs.Line.{several_texts}
 use Rattle.ssim_command_line.specs.Line.{two_values, values_in}
 use Rattle.ssim_command_line.specs.Line.{Board, Calendar, Check, Diff, Explain, Export, Findings, History, Listing}
 use Rattle.ssim_command_line.specs.Line.{Merge, Page, Problems, Publish, Receive, Rehearse, Select, Show, Start}
@@ -238,6 +239,10 @@ abbrev pub calendar_row : Command
 calendar_row = by (codes "calendar") (one_value ++ several_texts ∷ choice_words)
     (λ rows. one_and_several (Calendar (choice_of rows)))
 
+abbrev pub findings_row : Command
+findings_row = by (codes "findings") (one_value ++ any_texts ∷ flag (codes "not-acted") ∷ [])
+    (λ rows. one_and_texts (Findings (is_given (codes "not-acted") rows)))
+
 abbrev pub select_row : Command
 select_row = by (codes "select") (one_value ++ any_texts ∷ choice_words)
     (λ rows. one_and_texts (Select (choice_of rows)))
@@ -278,6 +283,12 @@ pub calendar_read : IsReader calendar_row
 unfolding clap_on_literals
 calendar_read = some_reader calendar_row.name calendar_row.words (λ rows. Calendar (choice_of rows))
     (λ a. record { enter = λ t rest. refl; first = λ t u. refl; later = λ x seen t u. refl })
+
+pub findings_read : IsReader findings_row
+unfolding clap_on_literals
+findings_read = texts_reader findings_row.name findings_row.words
+    (λ rows. Findings (is_given (codes "not-acted") rows))
+    (λ a. (refl, record { enter = λ t rest. refl; first = λ t u. refl; later = λ x seen t u. refl }))
 
 pub select_read : IsReader select_row
 unfolding clap_on_literals
@@ -320,7 +331,7 @@ readers =
     ∷ with_two (codes "diff") Diff
     ∷ record { row = command (codes "publish") four_values (four Publish); reads = four_plain (codes "publish") Publish }
     ∷ record { row = page_row; reads = page_read }
-    ∷ with_one (codes "findings") Findings
+    ∷ record { row = findings_row; reads = findings_read }
     ∷ with_one (codes "export") Export
     ∷ record { row = select_row; reads = select_read }
     ∷ record {

@@ -45,7 +45,7 @@ pub data Line : Type 0 where
   Page : (from : Option Text) (file : Text) → Line
   Diff : (from to : Text) → Line
   Publish : (from to reference out : Text) → Line
-  Findings : (desk : Text) → Line
+  Findings : (not_acted : Bool) (desk : Text) (flights : List Text) → Line
   Export : (desk : Text) → Line
   Select : (choice : ChoiceTexts) (file : Text) (flights : List Text) → Line
   Convert : (mode : ModeWord) (file out : Text) → Line
@@ -87,7 +87,8 @@ line_of (request.Calendar choice file flights) =
 line_of (request.Page from file) = Page (option_map (λ f. f.now) from) file.now
 line_of (request.Diff from to) = Diff from.now to.now
 line_of (request.Publish from to reference out) = Publish from.now to.now reference.now out.now
-line_of (request.Findings desk) = Findings desk.now
+line_of (request.Findings not_acted desk flights) =
+    Findings not_acted desk.now (map (λ t. t.now) flights.items)
 line_of (request.Export desk) = Export desk.now
 line_of (request.Select choice file flights) =
     Select (choice_line choice) file.now (map (λ t. t.now) flights.items)
@@ -260,7 +261,11 @@ commands =
     ∷ command (codes "diff") two_values (two Diff)
     ∷ command (codes "publish") four_values (four Publish)
     ∷ command (codes "page") one_or_two_values (one_or_two Page)
-    ∷ command (codes "findings") one_value (one Findings)
+    ∷ record {
+      name = codes "findings";
+      words = one_value ++ any_texts ∷ flag (codes "not-acted") ∷ [];
+      make = λ rows. one_and_texts (Findings (is_given (codes "not-acted") rows));
+    }
     ∷ command (codes "export") one_value (one Export)
     ∷ record {
       name = codes "select";

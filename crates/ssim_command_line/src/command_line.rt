@@ -156,9 +156,12 @@ pub enum Request<'a> {
         reference: &'a str,
         out: &'a str,
     },
-    /// Print what the sub-messages of a desk found.
+    /// Print what the sub-messages of a desk found: of all flights, or of these; and all of them, or
+    /// those that did not act on a date.
     Findings {
+        not_acted: bool,
         desk: &'a str,
+        flights: Vec<&'a str>,
     },
     /// Export a desk.
     Export {
@@ -353,6 +356,13 @@ fn form_of(inner: &ArgMatches<'_>) -> ListForm
         csv: is_given(inner, "csv"),
         dates: is_given(inner, "dates"),
     }
+}
+
+/// Whether `findings` prints only what did not act.
+fn not_acted_of(inner: &ArgMatches<'_>) -> bool
+    ensures { result ≡ is_given (codes "not-acted") (rows_of (found_of inner.now)) }
+{
+    is_given(inner, "not-acted")
 }
 
 /// The time mode of a word.

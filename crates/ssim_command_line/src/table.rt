@@ -353,7 +353,8 @@ writes the page of 'friday.desk' with what changed from 'monday.desk', as in
 'diff'.
 Exit status: 0; 1 if a file is refused or cannot be read, or of two files the
 airline (41) or the time mode (40) of TO is another one."
-        "findings" [First("DESK")] => Findings(desk)
+        "findings" [First("DESK"), Any("FLIGHT"), Flag("not-acted")]
+            => Findings(desk; flights; not_acted: not_acted_of)
         "Print on how many dates each message acted, and why not on others"
         "\
 Example:
@@ -361,7 +362,10 @@ Example:
 prints the reference, the number of the sub-message, its action and flight, and
 the dates:
   SSM 15MAR27 00001 001 1 CNL Z7103 acted 1 absent 0 present 0 leg 0 station 0
-Exit status: 0; 1 if the desk file is refused or cannot be read."
+With --not-acted it prints only the sub-messages that did not act on a date of
+their period, or have none.
+Exit status: 0; 1 if the desk file is refused or cannot be read, or a word is no
+flight (6)."
         "export" [First("DESK")] => Export(desk)
         "Print the timetable of a desk as a data set, in canonical form"
         "\

@@ -1,6 +1,6 @@
 -- Equal files are read as one value, and what a command makes of it has one outcome. So what it prints
 -- is the same, or its refusal is.
-use Rattle.std.proofs.Common.{◌≡◌, ◌∙◌, ◌⊎◌, inl, inr, ℕ, true, List, [], ◌∷◌, ◌++◌, Option, Some}
+use Rattle.std.proofs.Common.{◌≡◌, ◌∙◌, ◌⊎◌, inl, inr, ℕ, Bool, true, List, [], ◌∷◌, ◌++◌, Option, Some}
 use Rattle.std.proofs.Common.{None, Ok, Err, length, map, refl, sym, ap, ap₂, subst}
 use Rattle.std.specs.Prelude.{All}
 use Rattle.std.specs.List.{flat_map}
@@ -307,8 +307,14 @@ lines_of_history desk named =
     blocks (map (history_on (airline_of desk.base.records) (itinerary desk.base.records)
     (steps_on desk) named.1) (in_order named.0))
 
-abbrev findings_of : DeskSeen → Answer (List ℕ)
-findings_of desk = Gives (findings_lines (entry_lines desk.held (found_by desk.base desk.held)))
+abbrev lines_found : Bool → List Designator → BaseSeen → List Entry → List ℕ
+lines_found not_acted flights base held =
+    findings_lines not_acted flights (entry_lines held (found_by base held))
+
+abbrev findings_of : Bool → List Text → DeskSeen → Answer (List ℕ)
+findings_of not_acted words desk =
+    flights_in (airline_of desk.base.records) words
+    >>= (λ flights. Gives (lines_found not_acted flights desk.base desk.held))
 
 abbrev export_of : DeskSeen → Answer (List Act)
 export_of desk = prints (export_in desk.base.records (days_of_desk desk))
@@ -335,17 +341,25 @@ module _ (no_two : NoTwoDesks) where
       (message_texts (messages_on those other.held))
       (λ i. message_texts (messages_on (both i) (one.1 i))))))
 
-  pub findings_alike : DoesTheSame Findings
-  findings_alike files others name another same =
+  pub findings_alike : (not_acted : Bool) (words : List Text)
+      → DoesTheSame (λ file. Findings not_acted file words)
+  findings_alike not_acted words files others name another same =
       let mine = desk_in (Some files) name in
       let theirs = desk_in (Some others) another in
-      let lines : BaseSeen → List Entry → List ℕ =
-      λ base held. findings_lines (entry_lines held (found_by base held)) in
-      prints_alike (mine >>= findings_of) (theirs >>= findings_of)
-      (then_alike SameDesk Equal mine theirs findings_of findings_of
+      let lines = lines_found not_acted in
+      let found = findings_of not_acted words in
+      prints_alike (mine >>= found) (theirs >>= found)
+      (then_alike SameDesk Equal mine theirs found found
       (desk_alike files others name another same no_two)
-      (λ desk other one. gives_alike (lines desk.base desk.held) (lines other.base other.held)
-      (λ i. lines (one.0 i) (one.1 i))))
+      (λ desk other one. then_alike Equal Equal (flights_in (airline_of desk.base.records) words)
+      (flights_in (airline_of other.base.records) words)
+      (λ flights. Gives (lines flights desk.base desk.held))
+      (λ flights. Gives (lines flights other.base other.held))
+      (flights_alike (airline_of desk.base.records) (airline_of other.base.records) words
+      (airlines_same desk other one))
+      (λ flights those both. gives_alike (lines flights desk.base desk.held)
+      (lines those other.base other.held)
+      (λ i. lines (both i) (one.0 i) (one.1 i)))))
 
   pub export_alike : DoesTheSame Export
   export_alike files others name another same =

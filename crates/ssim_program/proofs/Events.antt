@@ -226,7 +226,7 @@ module _ (old new : Files) (acts done later : List Act) (split : acts ≡ done +
       (set.0, refl)
       (λ is. same_some new ((out, set.0) ∷ old) (is
       ∙ ap (λ (k : Kept). with_kept k (Some old)) (ap kept_by are)))
-  of_line (line.Findings desk) (bytes, is, are) =
+  of_line (line.Findings not_acted desk flights) (bytes, is, are) =
       looks _ old new acts done later split left (ap kept_by are)
   of_line (line.Export desk) (one, read, (bytes, is, are)) =
       looks _ old new acts done later split left (ap kept_by are)

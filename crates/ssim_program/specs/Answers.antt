@@ -1,9 +1,8 @@
 -- What each command does, by the files: one equation a command.
-use Rattle.std.specs.Prelude.{◌≡◌, ℕ, true, List, [], ◌∷◌, ◌++◌, length, map, slice_range}
+use Rattle.std.specs.Prelude.{◌≡◌, ℕ, Bool, true, List, [], ◌∷◌, ◌++◌, length, map, slice_range}
 use Rattle.std.specs.Prelude.{Option, None, Some, Ok, Err}
 use Rattle.ssim_values.specs.Station.{is_station}
 use Rattle.ssim_values.specs.Flight.{FlightNumber}
-use Rattle.ssim_values.specs.declared.designator.Designator.{Designator}
 use Rattle.ssim_values.specs.declared.fault.Fault.TheVariants as value_fault
 use Rattle.ssim_records.specs.Carrier.{CarrierFields}
 use Rattle.ssim_base.specs.Base.{airline_of}
@@ -169,11 +168,13 @@ history files file flight words = do
   Gives (blocks (map (history_on (airline_of desk.base.records) (itinerary desk.base.records)
       (steps_on desk) named.1) (in_order named.0)))
 
--- what each sub-message found
-abbrev pub findings : Option Files → Text → Answer (List ℕ)
-findings files file = do
+-- what each sub-message found: of all flights, or of those that are named; all, or those alone that
+-- did not act on a date
+abbrev pub findings : Option Files → Bool → Text → List Text → Answer (List ℕ)
+findings files not_acted file words = do
   desk ← desk_in files file
-  Gives (findings_lines (finding_lines desk))
+  flights ← flights_in (airline_of desk.base.records) words
+  Gives (findings_lines not_acted flights (finding_lines desk))
 
 -- the canonical export of what a desk has
 abbrev pub export : Option Files → Text → Answer (List Act)
@@ -341,7 +342,7 @@ answers (Calendar words file flights) files = prints (calendar files words file 
 answers (Page from file) files = prints (page files from file)
 answers (Diff from to) files = prints (diff files from to)
 answers (Publish from to reference out) files = publish files from to reference out
-answers (Findings file) files = prints (findings files file)
+answers (Findings not_acted file flights) files = prints (findings files not_acted file flights)
 answers (Export file) files = export files file
 answers (Select choice file flights) files = select files choice file flights
 answers (Convert mode file out) files = convert files mode file out

@@ -124,7 +124,11 @@ pub(crate) fn make<'r, S: Store>(
         } => lines(calendar::calendar(alloc, choice, file, flights, store)),
         Request::Page { from, file } => lines(page::page(alloc, *from, file, store)),
         Request::Diff { from, to } => lines(diff::diff(alloc, from, to, store)),
-        Request::Findings { desk } => lines(findings::findings(alloc, desk, store)),
+        Request::Findings {
+            not_acted,
+            desk,
+            flights,
+        } => lines(findings::findings(alloc, *not_acted, desk, flights, store)),
         Request::Select {
             choice,
             file,

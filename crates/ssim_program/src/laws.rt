@@ -1,6 +1,6 @@
 //! What holds of the bytes that the commands write, and of desk files after any commands.
 
-ghost use Rattle.std.specs.Prelude.{List, None, Some};
+ghost use Rattle.std.specs.Prelude.{Bool, List, None, Some};
 ghost use Rattle.ssim_command_line.specs.Line.{Board, Calendar, Carry, Check, ChoiceTexts, Diff};
 ghost use Rattle.ssim_command_line.specs.Line.{Convert, Export, Findings, Select};
 ghost use Rattle.ssim_command_line.specs.Line.{History, Listing, Page, Problems, Show, Text, Texts};
@@ -75,16 +75,17 @@ pub fn nothing_taken_is_lost()
 }
 
 /// Of two equal desk files `texts`, `findings` and `export` do the same. They print the same bytes:
-/// the messages, what each sub-message found, and the chapter 7 data set. Or they are refused for the
-/// same: if one is refused and the other is not, memory ran out (90). `withdraw` prints the same: what
-/// became of each reference. So does `carry` of two pairs of equal desk files: what became of each
-/// message.
+/// the chosen messages, what the chosen sub-messages found, and the chapter 7 data set. Or they are
+/// refused for the same: if one is refused and the other is not, memory ran out (90). `withdraw`
+/// prints the same: what became of each reference. So does `carry` of two pairs of equal desk files:
+/// what became of each message.
 pub fn equal_desk_files_do_the_same()
     ensures texts { (flights : List Text) → DoesTheSame (λ file. Texts file flights) }
     ensures withdraw { (out : Text) (references : List Text)
         → PrintsTheSame (λ file. Withdraw file out references) }
     ensures carry { (out : Text) → PrintsTheSameOfPairs (λ desk other. Carry desk other out) }
-    ensures findings { DoesTheSame Findings }
+    ensures findings { (not_acted : Bool) (flights : List Text)
+        → DoesTheSame (λ file. Findings not_acted file flights) }
     ensures export { DoesTheSame Export }
 {
     one_reference();

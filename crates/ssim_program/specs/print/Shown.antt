@@ -1,7 +1,8 @@
 -- What a desk has, as it is printed: a flight on a date, and what its sub-messages found.
-use Rattle.std.specs.Prelude.{ℕ, Bool, true, false, if◌then◌else◌, List, [], ◌∷◌, ◌++◌, codes}
+use Rattle.std.specs.Prelude.{ℕ, Bool, true, false, not, ◌==◌, ◌&&◌, ◌||◌, if◌then◌else◌}
+use Rattle.std.specs.Prelude.{List, [], ◌∷◌, ◌++◌, codes}
 use Rattle.std.specs.Fmt.{decimal}
-use Rattle.std.specs.List.{flat_map}
+use Rattle.std.specs.List.{flat_map, list_any}
 use Rattle.ssim_values.specs.Day.{day_text}
 use Rattle.ssim_values.specs.Designator.{designator_text}
 use Rattle.ssim_values.specs.Flight.{FlightNumber}
@@ -9,7 +10,8 @@ use Rattle.ssim_values.specs.declared.designator.Designator.{Designator}
 use Rattle.ssim_text.specs.Lines.{identifier_text}
 use Rattle.ssim_text.specs.Reference.{printed_reference}
 use Rattle.ssim_base.specs.Export.{line}
-use Rattle.ssim_base.specs.Timetable.{LegValue, Legs}
+use Rattle.ssim_base.specs.Timetable.{LegValue, Legs, same_flight}
+use Rattle.ssim_schedule.specs.declared.finding.Finding.{Finding}
 use Rattle.ssim_schedule.specs.declared.finding.Reason.{Reason}
 use Rattle.ssim_schedule.specs.declared.finding.Reason.TheVariants.{Acted, Absent, Present, Leg, Station}
 use Rattle.ssim_desk.specs.declared.date_step.DateStep.{DateStep}
@@ -87,6 +89,30 @@ history_on airline first steps day flight =
     history_lines (record { airline = airline; flight = flight }) day (first flight day)
     (steps flight day)
 
--- a line for each sub-message
-abbrev pub findings_lines : List FindingLine → List ℕ
-findings_lines found = flat_map (λ f. line (finding_text f)) found
+-- ---- what each sub-message found
+
+-- whether a sub-message acted on no date, or did not act on one of its dates
+abbrev pub fails : Finding → Bool
+fails found =
+    found.acted == 0
+    || not (found.absent == 0) || not (found.present == 0) || not (found.leg == 0)
+    || not (found.station == 0)
+
+-- whether no flight is named, or this is one of those named
+abbrev pub is_of_one : List Designator → FlightNumber → Bool
+is_of_one [] flight = true
+is_of_one (d ∷ named) flight = list_any (λ one. same_flight flight one.flight) (d ∷ named)
+
+-- whether a sub-message is printed: of these flights, and of all or only those that did not act
+abbrev pub is_shown : Bool → List Designator → FindingLine → Bool
+is_shown not_acted flights found =
+    is_of_one flights found.designator.flight && (not not_acted || fails found.finding)
+
+-- the line of a sub-message, if it is printed
+abbrev pub chosen_line : Bool → List Designator → FindingLine → List ℕ
+chosen_line not_acted flights found =
+    if is_shown not_acted flights found then line (finding_text found) else []
+
+-- a line for each sub-message that is printed
+abbrev pub findings_lines : Bool → List Designator → List FindingLine → List ℕ
+findings_lines not_acted flights found = flat_map (chosen_line not_acted flights) found

@@ -1,26 +1,36 @@
 //! The command `findings`: what each sub-message of a desk found.
 
-ghost use Rattle.std.specs.Prelude.{◌≡◌};
+ghost use Rattle.std.specs.Prelude.{◌≡◌, map};
 ghost use Rattle.ssim_program.specs.Answers.{findings};
 ghost use Rattle.ssim_program.specs.internal.Program.{Answers};
 
+use crate::command::named_flights::named_flights;
 use crate::desk_file::open_holdings;
-use crate::print::finding::lines_of;
+use crate::print::finding::{FindingChoice, lines_of};
 use crate::refusal::Refusal;
 use crate::store::Store;
 use std::alloc::Global;
 
-/// What each sub-message of the desk in a file found.
+/// What each sub-message of the desk in a file found: of all flights, or of those that are named;
+/// and all of them, or those that did not act on a date.
 pub(crate) fn findings<S: Store>(
     alloc: Global,
+    not_acted: bool,
     file: &str,
+    flights: &[&str],
     store: &mut S,
 ) -> Result<Vec<u8>, Refusal>
-    ensures answer { Answers (findings (S.files store.old) file.now) result }
+    ensures answer { Answers (findings (S.files store.old) not_acted file.now
+        (map (λ t. t.now) flights.now)) result }
     ensures same { S.files store.new ≡ S.files store.old }
     ensures counted { S.failures store.new ≡ S.failures store.old }
 {
     let desk = open_holdings(alloc, file, store)?;
-    let lines = lines_of(alloc, &desk)?;
+    let flights = named_flights(alloc, desk.data_set().airline(), flights)?;
+    let choice = FindingChoice {
+        not_acted,
+        flights: &flights,
+    };
+    let lines = lines_of(alloc, &desk, &choice)?;
     Ok(lines)
 }

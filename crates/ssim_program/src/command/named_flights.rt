@@ -1,6 +1,8 @@
 //! The flights that words of the command line name.
 
 ghost use Rattle.std.specs.Prelude.{◌≡◌, ◌⊎◌, All, Err, IfErr, IfOk, List, Ok, false, map, true};
+ghost use Rattle.std.specs.List.{list_any};
+ghost use Rattle.ssim_base.specs.Timetable.{same_flight};
 ghost use Rattle.ssim_values.specs.declared.designator.Designator.{Designator};
 ghost use Rattle.ssim_values.specs.declared.fault.Fault.TheVariants as value_fault;
 ghost use Rattle.ssim_program.specs.Messages.{IsOf, flights_in};
@@ -11,7 +13,7 @@ ghost use Rattle.ssim_program.specs.declared.refusal.Refusal.TheVariants as refu
 use crate::refusal::Refusal;
 use ssim_base::ResolveFault;
 use ssim_desk::DeskFault;
-use ssim_values::{Airline, Designator, Fault};
+use ssim_values::{Airline, Designator, Fault, Flight};
 use ssim_words::typed_flights;
 use std::alloc::Global;
 
@@ -62,4 +64,11 @@ pub(crate) fn has_other(airline: Airline, flights: &[Designator]) -> bool
         }
     }
     false
+}
+
+/// Whether a flight is one of these.
+pub(crate) fn is_among(flight: Flight, flights: &[Designator]) -> bool
+    ensures { result ≡ list_any (λ d. same_flight flight d.flight) flights.now }
+{
+    flights.iter().any(|designator| flight == designator.flight)
 }

@@ -1,20 +1,18 @@
 //! The command `texts`: the messages that a desk holds, as their canonical texts.
 
 ghost use Rattle.std.specs.Prelude.{◌≡◌, ◌++◌, [], ◌∷◌, if◌then◌else◌, IfOk, OnOk, map};
-ghost use Rattle.std.specs.List.{list_any};
-ghost use Rattle.ssim_base.specs.Timetable.{same_flight};
 ghost use Rattle.ssim_text.specs.Canonical.{canonical};
 ghost use Rattle.ssim_program.specs.Messages.{is_chosen, message_texts};
 ghost use Rattle.ssim_program.specs.Messages.{messages_on, names_one};
 ghost use Rattle.ssim_program.specs.Answers.{texts};
 ghost use Rattle.ssim_program.specs.internal.Program.{Answers};
 
-use crate::command::named_flights::named_flights;
+use crate::command::named_flights::{is_among, named_flights};
 use crate::desk_file::open_holdings;
 use crate::refusal::Refusal;
 use crate::store::Store;
 use ssim_desk::Held;
-use ssim_values::{Designator, Flight, Memory};
+use ssim_values::{Designator, Memory};
 use std::alloc::Global;
 
 /// The texts of the messages that the desk in a file holds; with flights, of those that name one of
@@ -86,10 +84,4 @@ fn names_one(message: &Held, flights: &[Designator]) -> bool
         .dates()
         .iter()
         .any(|sub| is_among(sub.flight, flights))
-}
-
-fn is_among(flight: Flight, flights: &[Designator]) -> bool
-    ensures { result ≡ list_any (λ d. same_flight flight d.flight) flights.now }
-{
-    flights.iter().any(|designator| flight == designator.flight)
 }

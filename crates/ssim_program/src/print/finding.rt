@@ -4,33 +4,88 @@ ghost use Rattle.std.specs.Prelude.{◌≡◌, ◌++◌, IfOk, OnOk};
 ghost use Rattle.ssim_base.specs.Export.{line};
 ghost use Rattle.ssim_desk.specs.Desk.{finding_lines};
 ghost use Rattle.ssim_program.specs.print.PrintedLine.{counts_text, finding_text, sub_text};
-ghost use Rattle.ssim_program.specs.print.Shown.{findings_lines};
+ghost use Rattle.ssim_program.specs.print.Shown.{chosen_line, fails, findings_lines, is_of_one};
+ghost use Rattle.ssim_program.specs.print.Shown.{is_shown};
 
-use crate::print::AsLine;
+use crate::command::named_flights::is_among;
 use ssim_desk::{FindingLine, Holdings};
 use ssim_lines::{Printed, push_each, written};
 use ssim_schedule::Finding;
-use ssim_values::Memory;
+use ssim_values::{Designator, Flight, Memory};
 use std::alloc::Global;
 use std::io::Write;
 
-/// A line for each sub-message that the desk holds, in order.
-pub(crate) fn lines_of(alloc: Global, desk: &Holdings) -> Result<Vec<u8>, Memory>
-    ensures { IfOk result (λ lines. lines.items ≡ findings_lines (finding_lines desk.now)) }
+/// Which sub-messages are printed.
+#[derive(Clone, Copy)]
+pub(crate) struct FindingChoice<'a> {
+    /// Only those that did not act on a date.
+    pub(crate) not_acted: bool,
+    /// Only those of one of these flights, if there is one.
+    pub(crate) flights: &'a [Designator],
+}
+
+/// A line for each chosen sub-message that the desk holds, in order.
+pub(crate) fn lines_of(
+    alloc: Global,
+    desk: &Holdings,
+    choice: &FindingChoice<'_>,
+) -> Result<Vec<u8>, Memory>
+    ensures { IfOk result (λ lines. lines.items
+        ≡ findings_lines choice.now.not_acted choice.now.flights.now (finding_lines desk.now)) }
 {
     let findings = desk.findings()?;
     let mut lines = Vec::new(alloc);
-    push_each(&mut lines, &AsLine, &findings)?;
+    push_each(&mut lines, choice, &findings)?;
     Ok(lines)
 }
 
-impl Printed<AsLine> for FindingLine {
-    ghost text = { λ _ found. line (finding_text found) };
+impl Printed<FindingChoice<'_>> for FindingLine {
+    ghost text = { λ choice found. chosen_line choice.not_acted choice.flights.now found };
 
-    fn print(&self, _line: &AsLine, lines: &mut Vec<u8>) -> Result<(), Memory> {
-        push_sub(lines, self)?;
-        push_counts(lines, &self.finding)
+    fn print(&self, choice: &FindingChoice<'_>, lines: &mut Vec<u8>) -> Result<(), Memory> {
+        if is_shown(self, choice) {
+            push_finding(lines, self)
+        } else {
+            Ok(())
+        }
     }
+}
+
+/// Whether a sub-message is printed.
+fn is_shown(found: &FindingLine, choice: &FindingChoice<'_>) -> bool
+    ensures { result ≡ is_shown choice.now.not_acted choice.now.flights.now found.now }
+{
+    is_of_one(found.designator.flight, choice.flights)
+        && (!choice.not_acted || fails(&found.finding))
+}
+
+/// Whether no flight is named, or this is one of those named.
+fn is_of_one(flight: Flight, flights: &[Designator]) -> bool
+    ensures { result ≡ is_of_one flights.now flight }
+{
+    match flights.split_first() {
+        None => true,
+        Some(_) => is_among(flight, flights),
+    }
+}
+
+/// Whether a sub-message acted on no date, or did not act on one of its dates.
+fn fails(finding: &Finding) -> bool
+    ensures { result ≡ fails finding.now }
+{
+    finding.acted == 0
+        || finding.absent != 0
+        || finding.present != 0
+        || finding.leg != 0
+        || finding.station != 0
+}
+
+/// Adds the line of a sub-message.
+fn push_finding(lines: &mut Vec<u8>, found: &FindingLine) -> Result<(), Memory>
+    ensures { OnOk result (lines.new.items ≡ lines.old.items ++ line (finding_text found.now)) }
+{
+    push_sub(lines, found)?;
+    push_counts(lines, &found.finding)
 }
 
 /// Adds the reference, the number of the sub-message, its action and its flight.

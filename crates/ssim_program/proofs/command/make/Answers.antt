@@ -167,8 +167,14 @@ returns-in-Diff-clause-answer g c = let old = g.S.Store.files c.args.store.now i
 pub returns-in-Findings-clause-answer : goal.returns-in-Findings-clause-answer
 returns-in-Findings-clause-answer g c = let old = g.S.Store.files c.args.store.now in
     made_of _ _ _ _ _ c.in-Findings.is
-    (lines_of g.S.Hold.Hold.file old (answer.findings old c.in-Findings.desk.now) c.findings.result
-    c.lines-in-Findings.result c.findings.ensures.answer c.lines-in-Findings.ensures)
+    (lines_of g.S.Hold.Hold.file old
+    (answer.findings old c.in-Findings.not_acted c.in-Findings.desk.now
+    (map (λ t. t.now) c.in-Findings.flights.items))
+    c.findings.result c.lines-in-Findings.result
+    (subst (λ (words : List (Bor (List ℕ))). Answers
+    (answer.findings old c.in-Findings.not_acted c.in-Findings.desk.now (map (λ t. t.now) words))
+    c.findings.result) c.deref-in-Findings.ensures.value c.findings.ensures.answer)
+    c.lines-in-Findings.ensures)
 
 pub returns-in-Select-clause-answer : goal.returns-in-Select-clause-answer
 returns-in-Select-clause-answer g c =
