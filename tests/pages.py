@@ -157,7 +157,8 @@ def main():
     whole = Page(printed(program, "--help"))
     files = made(program)
     found = list(faults(program, whole, files))
-    with tempfile.TemporaryDirectory() as folder:
+    # A shell that ends may still write a file into its folder while that is removed.
+    with tempfile.TemporaryDirectory(ignore_cleanup_errors=True) as folder:
         write(folder, files)
         os.symlink(program, os.path.join(folder, "ssimdesk"))
         for name in ("a.ssim", "a season.ssim"):
