@@ -4,7 +4,8 @@ Each case has a data set or a desk, as in `parts`, and choices of its flights, d
 `export` writes (flight_dates.py) each is taken or left by itself. `list`, in each of its forms, and `calendar` have to print what follows from
 those that are taken; and what they print of the data set that `select` writes with the same choice, byte for byte. In a case of `words` some
 words are invalid, and the refusal is that of the first of them by kind. In a case of `several` `show` of several flights has to print what
-follows from their dates, and `show`, `history` and `calendar` what they print of each flight alone.
+follows from their dates, and `show`, `history` and `calendar` what they print of each flight alone. Of a desk `findings` of some flights, and of what did not act, has to
+print those lines of all findings.
 """
 import copy
 import datetime
@@ -91,6 +92,7 @@ def of_several(rng, room, table):
         wanted = together([room(command, "FILE", name, date(day)) for name in in_order])
         yield f"{command} {names} {day}", room(command, "FILE", *names, date(day)), wanted
     yield f"calendar {names}", room("calendar", "FILE", *names), together([room("calendar", "FILE", name) for name in in_order])
+    yield from of_findings(room, names)
     wrong = {"Z7A": "6 BadDesignator", "XX123": "41 Airline sub 0"}
     for command in "show", "history":
         words = rng.sample([*wrong, *names], k=2)
@@ -100,6 +102,26 @@ def of_several(rng, room, table):
             fault = "1 BadDate"
         if fault:
             yield f"{command} {words} {last}", room(command, "FILE", *words, last), Answer(1, b"", f"refused {fault}\n")
+
+
+def did_not_act(line):
+    """Whether a line of findings has no date, or one on which the sub-message did not act."""
+    acted, *others = (int(word) for word in line.split()[-9::2])
+    return acted == 0 or any(others)
+
+
+def of_findings(room, names):
+    """What is compared of the findings of a desk; of a data set nothing."""
+    whole = room("findings", "FILE")
+    if whole.status:
+        return
+    lines = whole.out.decode("ascii").splitlines()
+    room.counts["findings of which some did not act" if any(map(did_not_act, lines)) else "findings"] += bool(lines)
+    for words in [], names:
+        of_flights = [line for line in lines if not words or line.split()[-11] in words]
+        yield f"findings {words}", room("findings", "FILE", *words), said(of_flights)
+        wanted = said([line for line in of_flights if did_not_act(line)])
+        yield f"findings --not-acted {words}", room("findings", "FILE", *words, "--not-acted"), wanted
 
 
 def compared(rng, room, kind):

@@ -200,6 +200,10 @@ desks_printed() {
     expect "a flight of the file's airline" 0 $'LX544 01JUL25\nno flight\n' "" show held 544 01JUL25
     expect "no date has two readings" 1 "" $'refused 1 BadDate\n' show held 544 02/07/2025
     expect "findings" 0 $'SSM 01JUN25 00001 001 1 CNL LX544 acted 1 absent 0 present 0 leg 0 station 0\n' "" findings held
+    expect "findings of a flight" 0 $'SSM 01JUN25 00001 001 1 CNL LX544 acted 1 absent 0 present 0 leg 0 station 0\n' "" findings held 544
+    expect "findings of what did not act" 0 "" "" findings --not-acted held
+    expect "findings of another airline" 1 "" $'refused 41 Airline sub 0\n' findings held XX544
+    expect "findings of no flight" 1 "" $'refused 6 BadDesignator\n' findings held XX544 54Z4
     expect "a desk without texts is exported" 0 "@$tidied" "" export desk
     to=/dev/full expect "an export cannot be written" 1 "" $'refused 52 WriteFault\n' export held
     expect "a rehearsal" 0 @rehearsed "" rehearse divided.ssim none script

@@ -66,6 +66,7 @@ COMMANDS = [
     ("diff", ["diff", "theirs", "desk"], None),
     ("publish", ["publish", "desk", "theirs", "05JUN00001E001", "new"], "new"),
     ("findings", ["findings", "desk"], None),
+    ("findings of a flight", ["findings", "desk", "LX544"], None),
     ("convert", ["convert", "local", "desk", "new"], "new"),
     ("convert to the same mode", ["convert", "utc", "desk", "new"], "new"),
     ("select", ["select", "--station", "LHR", "--aircraft", "320", "--from", "1jul25", "desk", "LX544", "LX540"], None),
