@@ -29,11 +29,11 @@ legs_for rows wanted days m n =
 abbrev pub least_to : List Row → TimeMode → Days → ℕ → ℕ
 least_to rows wanted days m = first_where (comes_to rows wanted days m) 0 day_count
 
--- the itinerary on a new date: that of the least date that comes to it
+-- the itinerary on a new date: the least date that comes to it has it
 abbrev pub converted_on : List Row → TimeMode → Days → ℕ → Legs
 converted_on rows wanted days m = legs_for rows wanted days m (least_to rows wanted days m)
 
--- the itineraries of a flight in the wanted time mode
+-- the itineraries of a flight in the new time mode
 abbrev pub converted_days : List Row → TimeMode → Days → Days
 converted_days rows wanted days = each_day (converted_on rows wanted days)
 

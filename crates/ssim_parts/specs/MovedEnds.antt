@@ -72,7 +72,7 @@ moved_passenger wanted variation None = None
 moved_passenger wanted variation (Some minutes) =
     Some ((moved_time wanted variation minutes).minutes)
 
--- An end in the wanted time mode, if its UTC variation is known. Its day is counted from the day
+-- An end in the new time mode, if its UTC variation is known. Its day is counted from the day
 -- before the old date of origin.
 abbrev pub end_moved_by : TimeMode → Offset → LegEnd → MovedEnd
 end_moved_by wanted variation end =
@@ -91,7 +91,7 @@ abbrev pub passenger_text : Option ℕ → List ℕ
 passenger_text None = replicate 4 32
 passenger_text (Some minutes) = clock_text minutes
 
--- A leg's columns with these ends, for a date of origin that is so many days after the day before
+-- A leg's columns with these ends, for a date of origin that is `shift` days after the day before
 -- the old one. Columns 40 to 52, 58 to 70, 193 and 194 are new. The others stay.
 unfoldable pub with_ends : MovedEnd → MovedEnd → ℕ → List ℕ → List ℕ
 with_ends departure arrival shift d =

@@ -31,11 +31,11 @@ variation_on rows n end = or_of_table end.variation (variation_at rows end.stati
 abbrev pub known_variation : List Row → ℕ → LegEnd → Offset
 known_variation rows n end = unwrap_or (variation_on rows n end) no_variation
 
--- an end of a date in the wanted time mode
+-- an end of a date in the new time mode
 abbrev pub moved_end : List Row → TimeMode → ℕ → LegEnd → MovedEnd
 moved_end rows wanted n end = end_moved_by wanted (known_variation rows n end) end
 
--- a leg of a date in the wanted time mode
+-- a leg of a date in the new time mode
 abbrev pub moved_leg : List Row → TimeMode → ℕ → ℕ → LegValue → LegValue
 moved_leg rows wanted n shift leg = record leg {
   columns = with_ends (moved_end rows wanted n (departure_of leg.columns))
@@ -44,19 +44,19 @@ moved_leg rows wanted n shift leg = record leg {
 
 -- ---- the legs
 
--- To which day the date of origin moves: it is that of the first leg's departure.
+-- To which day the date of origin moves: the day on which the first leg departs.
 abbrev pub shift_of : List Row → TimeMode → ℕ → Legs → ℕ
 shift_of rows wanted n [] = 1
 shift_of rows wanted n (leg ∷ legs) =
     let departure = departure_of leg.columns in
     (moved_time wanted (known_variation rows n departure) departure.time).day
 
--- the legs of a flight date in the wanted time mode
+-- the legs of a flight date in the new time mode
 abbrev pub moved_legs : List Row → TimeMode → ℕ → Legs → Legs
 moved_legs rows wanted n legs =
     map (moved_leg rows wanted n (shift_of rows wanted n legs)) legs
 
--- ---- why a flight date has no place in a data set of the wanted time mode
+-- ---- why a flight date has no place in a data set of the new time mode
 
 -- the first reason, or else the next one
 abbrev pub or_reason : Option LeftReason → Option LeftReason → Option LeftReason
@@ -122,7 +122,7 @@ legs_if_kept Absent legs = []
 legs_if_kept (Left reason) legs = []
 legs_if_kept (Kept shift) legs = legs
 
--- what becomes of a flight date, other dates left aside, and its legs in the wanted time mode, none
+-- what becomes of a flight date, other dates left aside, and its legs in the new time mode, none
 -- if it is left
 abbrev pub moved_flight : List Row → TimeMode → ℕ → Legs → MovedFlight
 moved_flight rows wanted n legs =

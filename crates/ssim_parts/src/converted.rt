@@ -67,7 +67,7 @@ pub struct Converted {
     pub fates: Vec<FlightFates>,
 }
 
-/// The timetable in the wanted time mode, which is the other one. The rows are those of a station
+/// The timetable in the new time mode, which is the other one. The rows are those of a station
 /// table: they give the UTC variations that are blank. `into` is a schedule without flights, which
 /// becomes the new timetable.
 ///

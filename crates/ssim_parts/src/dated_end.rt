@@ -32,7 +32,7 @@ impl LegEnd {
         }
     }
 
-    /// The aircraft time on a date in the wanted time mode.
+    /// The aircraft time on a date in the new time mode.
     pub(crate) fn moved_time(&self, rows: &[StationRow], wanted: TimeMode, day: Day) -> MovedTime
         ensures value { result
             ≡ moved_time wanted (known_variation rows.now day self.now) self.now.time }
@@ -41,7 +41,7 @@ impl LegEnd {
         MovedTime::of(wanted, self.known_variation(rows, day), self.time)
     }
 
-    /// The end on a date in the wanted time mode.
+    /// The end on a date in the new time mode.
     pub(crate) fn moved(&self, rows: &[StationRow], wanted: TimeMode, day: Day) -> MovedEnd
         ensures value { result ≡ moved_end rows.now wanted day self.now }
         ensures bounds { IsMoved result }

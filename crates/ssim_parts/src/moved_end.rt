@@ -8,7 +8,7 @@ use crate::leg_end::LegEnd;
 use crate::moved_time::MovedTime;
 use ssim_values::{Clock, TimeMode, Variation, is_digit};
 
-/// One end of a leg in the wanted time mode.
+/// One end of a leg in the new time mode.
 #[derive(Clone, Copy, Debug, PartialEq, Eq)]
 pub(crate) struct MovedEnd {
     pub variation: Variation,
@@ -21,7 +21,7 @@ pub(crate) struct MovedEnd {
 }
 
 impl LegEnd {
-    /// The end in the wanted time mode, with this UTC variation.
+    /// The end in the new time mode, with this UTC variation.
     pub(crate) fn moved_by(&self, wanted: TimeMode, variation: Variation) -> MovedEnd
         ensures value { result ≡ end_moved_by wanted variation self.now }
         ensures bounds { IsMoved result }
@@ -55,7 +55,7 @@ pub(crate) fn days_after(byte: u8) -> Option<u8>
     }
 }
 
-// A passenger time on the clock of the wanted time mode; a blank one stays.
+// A passenger time on the clock of the new time mode; a blank one stays.
 fn moved_passenger(wanted: TimeMode, variation: Variation, passenger: Option<Clock>) -> Option<u16>
     ensures value { result ≡ moved_passenger wanted variation passenger }
     ensures bound { IfSome result (λ minutes. minutes ≤ 1440) }

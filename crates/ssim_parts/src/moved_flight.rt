@@ -12,7 +12,7 @@ use ssim_schedule::{Itinerary, PlacedLeg};
 use ssim_values::{Day, Memory, TimeMode};
 use std::alloc::Global;
 
-/// What becomes of a flight date, other dates left aside, and its legs in the wanted time mode; none
+/// What becomes of a flight date, other dates left aside, and its legs in the new time mode; none
 /// if it is left.
 #[derive(Drop)]
 pub(crate) struct MovedFlight {

@@ -18,7 +18,7 @@ use std::alloc::Global;
 /// The number after the last day of the calendar.
 const DAYS: u16 = 36_525;
 
-/// What becomes of a flight date with these legs in the wanted time mode, other dates left aside.
+/// What becomes of a flight date with these legs in the new time mode, other dates left aside.
 pub(crate) fn own_fate(rows: &[StationRow], wanted: TimeMode, day: Day, legs: &[PlacedLeg]) -> Fate
     ensures value { result ≡ own_fate rows.now wanted day legs.now }
     ensures short { IsShort result }
@@ -156,7 +156,7 @@ fn beyond_in(
     }
 }
 
-/// The legs of a flight date in the wanted time mode.
+/// The legs of a flight date in the new time mode.
 pub(crate) fn moved_itinerary(
     alloc: Global,
     rows: &[StationRow],
@@ -174,7 +174,7 @@ pub(crate) fn moved_itinerary(
     FlightDate::of(alloc, day, moved)?.itinerary()
 }
 
-// A leg of a flight date in the wanted time mode.
+// A leg of a flight date in the new time mode.
 fn moved_leg(
     alloc: Global,
     rows: &[StationRow],

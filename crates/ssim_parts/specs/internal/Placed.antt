@@ -9,7 +9,7 @@ use Rattle.ssim_parts.specs.declared.fate.Fate.{Fate}
 use Rattle.ssim_parts.specs.declared.fate.Fate.TheVariants.{Absent, Kept}
 use Rattle.ssim_parts.specs.internal.KeptDates.{came_from, is_kept_with, left_if_kept, or_legs}
 
--- a period with what becomes of its flight dates, and their legs in the wanted time mode
+-- a period with what becomes of its flight dates, and their legs in the new time mode
 abbrev pub MovedPiece : Type 0
 MovedPiece = DayRange × MovedFlight
 
