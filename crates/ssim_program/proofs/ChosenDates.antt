@@ -10,11 +10,11 @@ use Rattle.ssim_periods.specs.Days.{each_day}
 use Rattle.ssim_periods.proofs.DayLemmas.{each_day-same, index-each_day}
 use Rattle.ssim_base.proofs.Places.{flight-is}
 use Rattle.ssim_base.specs.Export.{flight_at, flight_count}
-use Rattle.ssim_base.specs.Timetable.{Days, Legs, is_among, on_day, same_flight}
+use Rattle.ssim_base.specs.Timetable.{Legs, is_among, on_day, same_flight}
 use Rattle.ssim_schedule.proofs.Divisions.{flights_from}
 use Rattle.ssim_schedule.specs.FlightPieces.{in_order}
 use Rattle.ssim_parts.proofs.Choosing.{all_legs}
-use Rattle.ssim_parts.specs.Chosen.{Choosing, chooses_date, chooses_flight, chooses_legs, chosen_days}
+use Rattle.ssim_parts.specs.Chosen.{Choosing, chooses_date, chooses_flight, chooses_legs}
 use Rattle.ssim_parts.specs.Chosen.{chosen_legs, none_or}
 use Rattle.ssim_program.specs.internal.Choices.{HasAllDates}
 

@@ -1,17 +1,16 @@
 -- What a data set in a file is read as, if the file is opened and read to its end.
-use Rattle.std.proofs.Common.{◌≡◌, ◌≤◌, ◌<◌, ◌+◌, ◌⊎◌, ℕ, List, [], length, Option, Some, None, Result, Ok, Err, IfOk, IfErr, subst, sym, ap, inl, inr, refl, arith}
+use Rattle.std.proofs.Common.{◌≡◌, ◌≤◌, ◌<◌, ◌+◌, ℕ, List, [], length, Option, Some, None, Result, Ok, Err, IfOk, IfErr, subst, sym, ap, inl, inr, arith}
 use Rattle.std.specs.Prelude.{IfSome, codes}
 use Rattle.ssim_records.specs.Device.{Reader}
 use Rattle.ssim_records.specs.declared.fault.RecordFault.TheVariants.{Short, BadType, BadColumn, ReadFault, ReaderNeverEnds}
 use Rattle.ssim_records.specs.declared.record.Record.{Record}
 use Rattle.ssim_base.specs.Base.{Outcome}
-use Rattle.ssim_base.specs.clauses.Reading.{Came, HaveCome, FailsAs, NeverEnds, RefusesWhole}
-use Rattle.ssim_base.specs.Reading.{IsReadAs}
+use Rattle.ssim_base.specs.clauses.Reading.{Came, HaveCome, FailsAs, NeverEnds}
 use Rattle.ssim_base.specs.declared.fault.BaseFault.{BaseFault}
 use Rattle.ssim_base.specs.declared.fault.BaseFault.TheVariants as fault
 use Rattle.ssim_base.specs.declared.fault.BaseFault.TheVariants.{Read, Refused}
 use Rattle.ssim_base.specs.declared.note.Note.{Note}
-use Rattle.ssim_program.specs.Files.{Files, IsOpened, file_of}
+use Rattle.ssim_program.specs.Files.{Files, IsOpened}
 use Rattle.ssim_program.specs.Made.{HasFile, IsMissing, IsOfBytes, ReadsFile, RefusesLoad, file_limit}
 use Rattle.ssim_command_line.specs.Line.{Text}
 use Rattle.ssim_program.specs.print.Refusal.{IsOfFile, refusal_number}

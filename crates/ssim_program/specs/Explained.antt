@@ -130,7 +130,7 @@ kind_name kind.Script = codes "desk script"
 kind_name kind.Message = codes "text"
 kind_name kind.Stations = codes "station table"
 
--- The text tells that the file is invalid, of which kind of another program it is or which refusal
+-- The text says that the file is invalid, of which kind of another program it is or which refusal
 -- it has, or it says that the file is valid, and of which kind it is.
 abbrev pub ExplainsBytes : List ℕ → List ℕ → Type 0
 ExplainsBytes bytes printed =

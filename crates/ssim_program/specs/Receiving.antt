@@ -33,7 +33,6 @@ use Rattle.ssim_program.specs.print.PrintedLine.{printed_text}
 use Rattle.ssim_program.specs.print.Refusal.{IsOfFile, place_text, refusal_head}
 use Rattle.ssim_program.specs.print.Refusal.{refusal_place}
 use Rattle.ssim_program.specs.declared.content_kind.ContentKind.TheVariants as kind
-use Rattle.ssim_program.specs.declared.refusal.Refusal.{Refusal}
 use Rattle.ssim_program.specs.declared.refusal.Refusal.TheVariants as refused
 
 -- ---- what becomes of texts

@@ -12,7 +12,6 @@ use Rattle.ssim_base.specs.Export as exported
 use Rattle.ssim_base.specs.Export.{line}
 use Rattle.ssim_schedule.specs.declared.export.ExportFault.{ExportFault}
 use Rattle.ssim_schedule.specs.declared.export.ExportFault.TheVariants as export
-use Rattle.ssim_base.specs.declared.note.Note.{Note}
 use Rattle.ssim_text.specs.Reference.{printed_reference}
 use Rattle.ssim_held.specs.Held.{DeskState}
 use Rattle.ssim_held.specs.Entries.{DeskSeen, state_of}
