@@ -3,10 +3,14 @@ pub mod Changing
 pub mod Choosing
 pub mod CountedDates
 pub mod EvenDays
+pub mod Headings
 pub mod Held
 pub mod Landing
 pub mod MovedColumns
 pub mod MovedFlights
 pub mod NewTimetable
+pub mod NextSections
 pub mod Parting
+pub mod SectionItems
+pub mod SectionsLeft
 pub mod Turning

@@ -5,4 +5,7 @@ pub mod Fates
 pub mod FlightFates
 pub mod MovedEnds
 pub mod MovedLegs
+pub mod Sections
+pub mod clauses
+pub mod examples
 pub mod internal

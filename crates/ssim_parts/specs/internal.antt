@@ -6,3 +6,5 @@ pub mod FateOrder
 pub mod KeptDates
 pub mod Moved
 pub mod Placed
+pub mod SectionBlocks
+pub mod SectionSteps

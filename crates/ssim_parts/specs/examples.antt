@@ -1,0 +1,2 @@
+-- Small examples, checked by computation. Nothing cites them.
+pub mod Sections
