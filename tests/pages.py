@@ -42,8 +42,11 @@ COMPLETED = [
     (r"ssimdesk convert utc a\ s", r"a\ season.ssim"),
 ]
 
-# The seconds after which a shell has not completed a line. A processor may have other work.
+# The seconds after which a shell has not started. A processor may have other work.
 PATIENCE = 60
+
+# A busy shell may lose a key, so a line is typed anew if it is not completed after some seconds, some times.
+TRIES, MOMENT = 6, 10
 
 # The seconds after which a line that should be completed to nothing is looked at.
 ABSENT = 2
@@ -112,9 +115,9 @@ class Terminal:
             time.sleep(0.3)
         return before
 
-    def until(self, right):
-        """The screen when it is right, or after a time that is ample on a busy machine."""
-        end = time.monotonic() + PATIENCE
+    def until(self, right, patience=PATIENCE):
+        """The screen when it is right, or after these seconds."""
+        end = time.monotonic() + patience
         while not right(shown := self.shown()) and time.monotonic() < end:
             pass
         return shown
@@ -124,17 +127,31 @@ class Terminal:
         self.run("send-keys", "-l", text)
         self.run("send-keys", *keys)
 
-    def completed(self, text, wanted):
-        """The screen when tab has been typed twice after a text, and the expected words are there."""
-        self.run("send-keys", "C-u")
-        self.run("send-keys", "C-l")
-        self.until(lambda shown: shown.strip() == "%")
+    def clear(self):
+        """Makes the line and the screen empty."""
+        for _ in range(TRIES):
+            self.run("send-keys", "C-u")
+            self.run("send-keys", "C-l")
+            if self.until(lambda shown: shown.strip() == "%", MOMENT).strip() == "%":
+                return
+
+    def once_completed(self, text, wanted):
+        """The screen when tab has been typed twice after a text, and the expected words are there or are late."""
+        self.clear()
         self.typed(text, "Tab", "Tab")
         if wanted.startswith("|"):
             time.sleep(ABSENT)
-        shown = self.until(lambda shown: has_all(shown, wanted))
+        shown = self.until(lambda shown: has_all(shown, wanted), MOMENT)
         self.run("send-keys", "Escape")
         self.run("send-keys", "C-c")
+        return shown
+
+    def completed(self, text, wanted):
+        """The screen when a text is completed to the expected words, or after the last try."""
+        for _ in range(TRIES):
+            shown = self.once_completed(text, wanted)
+            if has_all(shown, wanted):
+                break
         return shown
 
     def end(self):
