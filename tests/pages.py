@@ -45,8 +45,8 @@ COMPLETED = [
 # The seconds after which a shell has not started. A processor may have other work.
 PATIENCE = 60
 
-# A busy shell may lose a key, so a line is typed anew if it is not completed after some seconds, some times.
-TRIES, MOMENT = 6, 10
+# A busy shell may lose a key, so a line is typed anew if it is not completed after some seconds, some times; and then in a new shell.
+TRIES, MOMENT = 3, 10
 
 # The seconds after which a line that should be completed to nothing is looked at.
 ABSENT = 2
@@ -95,7 +95,9 @@ class Terminal:
     """A shell in a terminal of tmux, in a folder."""
 
     def __init__(self, name, folder):
-        self.socket = os.path.join(folder, f"{name}.socket")
+        self.socket = os.path.join(tempfile.mkdtemp(dir=folder), "socket")
+        # Escape leaves a menu. In bash it would be the beginning of a key.
+        self.leave = ["C-c"] if name == "bash" else ["Escape", "C-c"]
         command, first = SHELLS[name]
         path = f"PATH={folder}:{os.environ['PATH']}"
         self.run("new-session", "-d", "-x", "120", "-y", "50", "-c", folder, f"env {path} HOME={folder} {command}")
@@ -142,8 +144,8 @@ class Terminal:
         if wanted.startswith("|"):
             time.sleep(ABSENT)
         shown = self.until(lambda shown: has_all(shown, wanted), MOMENT)
-        self.run("send-keys", "Escape")
-        self.run("send-keys", "C-c")
+        for key in self.leave:
+            self.run("send-keys", key)
         return shown
 
     def completed(self, text, wanted):
@@ -164,6 +166,10 @@ def tried(name, folder):
     terminal = Terminal(name, folder)
     for words, wanted in COMPLETED:
         shown = terminal.completed(words, wanted)
+        if not has_all(shown, wanted):
+            terminal.end()
+            terminal = Terminal(name, folder)
+            shown = terminal.completed(words, wanted)
         right = has_all(shown, wanted)
         yield None if right else f"{name} completes '{words}' not to {wanted}, but shows:\n{shown.strip()}"
     terminal.end()
