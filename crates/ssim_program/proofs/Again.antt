@@ -84,7 +84,8 @@ tidied_once law all name bytes acts own is fits (set, read, (again, export, are)
 
 -- ---- what was exported
 
-pub reads_itself : (frame : Frame) (days : FlightNumber → Days) (bytes : List ℕ) → ReadsBackFrom frame days bytes → ReadsAsItself bytes
+pub reads_itself : (frame : Frame) (days : FlightNumber → Days) (bytes : List ℕ)
+    → ReadsBackFrom frame days bytes → ReadsAsItself bytes
 reads_itself frame days bytes r = record {
   count = r.count;
   records = r.records;

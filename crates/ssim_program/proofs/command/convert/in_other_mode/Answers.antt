@@ -18,7 +18,8 @@ use Rattle.ssim_parts.specs.ConversionLines.{conversion_lines}
 use Rattle.ssim_parts.specs.FlightFates.{fates_of}
 use Rattle.ssim_program.specs.Converting.{days_in_mode, in_mode, in_other_mode}
 use Rattle.ssim_program.specs.declared.refusal.Refusal.TheVariants as refused
-use Rattle.ssim_program.proofs.Converting.{has_framed, no_export, refused_for, same_airline, same_fates}
+use Rattle.ssim_program.proofs.Converting.{has_framed, no_export, refused_for, same_airline}
+use Rattle.ssim_program.proofs.Converting.{same_fates}
 use Rattle.ssim_program.proofs.command.convert.in_other_mode.Goals as goal
 
 no_memory : (mode : TimeMode) (desk : DeskSeen) (frame : Frame) → HasFrame frame desk.base.records
