@@ -1,5 +1,6 @@
 -- What a call for the next section says of those that are left.
-use Rattle.std.proofs.Common.{◌≡◌, ◌∙◌, ℕ, ◌+◌, ◌-◌, ◌%◌, ◌^◌, List, [], ◌∷◌, ◌++◌, Option, Some, None}
+use Rattle.std.proofs.Common.{◌≡◌, ◌∙◌, ◌<◌, ◌≤◌, ℕ, suc, ◌+◌, ◌-◌, ◌*◌, ◌%◌, ◌^◌, List, [], ◌∷◌}
+use Rattle.std.proofs.Common.{◌++◌, Option, Some, None}
 use Rattle.std.specs.Prelude.{if◌then◌else◌}
 use Rattle.std.proofs.Common.{inl, inr, append_assoc, arith, length, refl, sym, ap, subst, true, false}
 use Rattle.std.proofs.Common.{Bool}
@@ -22,7 +23,7 @@ use Rattle.ssim_parts.specs.Sections.{after_items, before_all, begins_as_carrier
 use Rattle.ssim_parts.specs.Sections.{section_end, serial_after}
 use Rattle.ssim_parts.specs.clauses.Sections.{AreLeft, GivesSection, HasLeft, IsOpen, IsSection, Knows}
 use Rattle.ssim_parts.specs.clauses.Sections.{Begins, RefusesFile, RefusesNext, SectionsState}
-use Rattle.ssim_parts.specs.clauses.Sections.{ended_as}
+use Rattle.ssim_parts.specs.clauses.Sections.{HasRest, ended_as, most_left}
 use Rattle.ssim_parts.specs.declared.section.Section.{Section}
 use Rattle.ssim_parts.specs.internal.SectionSteps.{BeginNone, GoesOn, ReadsCarrier, ReadsHeader}
 use Rattle.ssim_parts.specs.internal.SectionSteps.{RefusesCarrier, RefusesHeader, RefusesOwn}
@@ -69,6 +70,21 @@ some-section exist before first r known begins =
       (first ∷ some.0, (some.0, refl, some.2), cut-first first some.0 begins),
     )
 
+-- after the block that begins the next section
+pub rest-after : FramesExist → (before : Before) (next : Block) (r : Reading)
+    (known : Option (List ℕ)) → begins_as_carrier next ≡ true
+    → HasRest (record { before = before; next = Some next; reading = r }) known
+rest-after exist before next r known begins =
+    let some = some-section exist before next r known begins in
+    (some.0 ∷ some.1, some.2, some.3)
+
+-- after the last section
+pub no-rest : (next : Option Block) (r : Reading) (known : Option (List ℕ)) (before : Before)
+    → next ≡ None → HasRest (record { before = before; next = next; reading = r }) known
+no-rest next r known before is =
+    subst (λ (n : Option Block). HasRest (record { before = before; next = n; reading = r }) known)
+    (sym is) ([], ended_as r, ([], (refl, refl), refl))
+
 -- ---- no section is returned
 
 pub refuses-next : FramesExist → (before : Before) (first : Block) (r : Reading)
@@ -91,6 +107,26 @@ refuses-next exist before first r known x y (Read (Short n)) begins own = absurd
 refuses-next exist before first r known x y (Read (BadType n)) begins own = absurd own
 refuses-next exist before first r known x y (Read (BadColumn n column)) begins own = absurd own
 refuses-next exist before first r known x y (Refused n why) begins own = absurd own
+
+-- ---- fewer sections are left
+
+fewer : (limit limit' n n' : ℕ) → limit' ≡ limit → n < n' → 200 * n' ≤ limit' + 1
+    → suc (limit' + 1 - 200 * n') < suc (limit + 1 - 200 * n)
+fewer limit limit' n n' is later room = omega (arith, is, later, room)
+
+-- than before, if one of them is the next one
+pub fewer-next : (before after : Before) (first second : Block) (r new : Reading)
+    → (new.limit ≡ r.limit) × (r.number < new.number) × (200 * new.number ≤ new.limit + 1)
+    → most_left (record { before = after; next = Some second; reading = new })
+    < most_left (record { before = before; next = Some first; reading = r })
+fewer-next before after first second r new (limit, later, room) =
+    fewer r.limit new.limit r.number new.number limit later room
+
+-- none is left
+pub fewer-none : (before after : Before) (first : Block) (r new : Reading)
+    → most_left (record { before = after; next = None; reading = new })
+    < most_left (record { before = before; next = Some first; reading = r })
+fewer-none before after first r new = omega arith
 
 -- ---- a section is returned
 

@@ -1,9 +1,10 @@
 //! The sections of a file of several carriers, one after another.
 
-ghost use Rattle.std.specs.Prelude.{◌≡◌, ◌∷◌, ◌≤◌, ◌<◌, ◌^◌, [], IfErr, IfOk, List, None, Option, ℕ};
+ghost use Rattle.std.specs.Prelude.{◌≡◌, ◌∷◌, ◌≤◌, ◌<◌, ◌^◌, [], IfErr, IfOk, IfSome, List, None};
+ghost use Rattle.std.specs.Prelude.{Option, ℕ};
 ghost use Rattle.ssim_base.specs.clauses.Building.{HasBuilt};
-ghost use Rattle.ssim_parts.specs.clauses.Sections.{Begins, GivesSection, Knows, RefusesFile};
-ghost use Rattle.ssim_parts.specs.clauses.Sections.{RefusesNext};
+ghost use Rattle.ssim_parts.specs.clauses.Sections.{Begins, GivesSection, HasRest, Knows, RefusesFile};
+ghost use Rattle.ssim_parts.specs.clauses.Sections.{RefusesNext, most_left};
 ghost use Rattle.ssim_parts.specs.internal.SectionBlocks.{HasRead};
 ghost use Rattle.ssim_parts.specs.internal.SectionSteps.{ReadsCarrier, ReadsHeader, ReadsOwn};
 ghost use Rattle.ssim_parts.specs.internal.SectionSteps.{is_header};
@@ -117,6 +118,12 @@ impl SectionReader {
             → Knows (R.state reader.old).left (R.state reader.new).left known known'
             → IfErr result
             (RefusesNext self.old known (R.state reader.old) (R.state reader.new)) }
+        ensures rest { (known known' : Option (List ℕ))
+            → Knows (R.state reader.old).left (R.state reader.new).left known known'
+            → IfOk result (λ section. IfSome section (λ _. HasRest self.new known')) }
+        // So the calls come to an end.
+        ensures fewer { IfOk result (λ section. IfSome section
+            (λ _. most_left self.new < most_left self.old)) }
     {
         frames_are_one();
         let Some(first) = self.next.take() else {

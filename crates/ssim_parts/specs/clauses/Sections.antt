@@ -1,6 +1,6 @@
 -- Reading the sections of a file: which of them are left, and what each call returns.
-use Rattle.std.specs.Prelude.{◌≡◌, ◌⊎◌, ◌<◌, ℕ, ◌+◌, ◌%◌, ◌^◌, Bool, true, List, [], ◌∷◌}
-use Rattle.std.specs.Prelude.{length, Option, Some, None, Result, Ok, Err}
+use Rattle.std.specs.Prelude.{◌≡◌, ◌⊎◌, ◌<◌, ℕ, ◌+◌, ◌-◌, ◌*◌, ◌%◌, ◌^◌, Bool, true, List, [], ◌∷◌}
+use Rattle.std.specs.Prelude.{length, suc, Option, Some, None, Result, Ok, Err}
 use Rattle.ssim_records.specs.Device.{Reader}
 use Rattle.ssim_records.specs.Frames.{others}
 use Rattle.ssim_records.specs.Header.{HeaderFields, SpellsHeader}
@@ -67,6 +67,19 @@ IsLeft s left blocks end' = by s.next
 abbrev pub AreLeft : SectionsState → Option (List ℕ) → List SectionBlocks → FileEnd → Type 0
 AreLeft s left sections end' =
     (blocks : List Block) × IsLeft s left blocks end' × (cut blocks ≡ ([], sections))
+
+-- whatever the bytes are, some sections are left, or none, and then the file ends
+abbrev pub HasRest : SectionsState → Option (List ℕ) → Type 0
+HasRest s left = (sections : List SectionBlocks) × (end' : FileEnd) × AreLeft s left sections end'
+
+-- A bound of how many sections are left: none, or the next one and one for each byte that the
+-- blocks so far leave of the limit.
+abbrev pub most_left : SectionsState → ℕ
+most_left s = by s.next
+  where
+    by : Option Block → ℕ
+    by None = 0
+    by (Some first) = suc (s.reading.limit + 1 - 200 * s.reading.number)
 
 -- What is known of the bytes of a reader, if somebody uses it.
 abbrev pub Knows : Option (List ℕ) → Option (List ℕ) → Option (List ℕ) → Option (List ℕ) → Type 0

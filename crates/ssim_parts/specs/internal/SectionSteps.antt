@@ -1,6 +1,6 @@
 -- What is known from block to block of a reading of sections.
-use Rattle.std.specs.Prelude.{◌≡◌, Bool, true, false, ℕ, ◌+◌, ◌%◌, ◌^◌, List, [], ◌∷◌, ◌++◌, Option}
-use Rattle.std.specs.Prelude.{Some, None}
+use Rattle.std.specs.Prelude.{◌≡◌, ◌<◌, ◌≤◌, Bool, true, false, ℕ, ◌+◌, ◌*◌, ◌%◌, ◌^◌, List, []}
+use Rattle.std.specs.Prelude.{◌∷◌, ◌++◌, Option, Some, None}
 use Rattle.ssim_records.specs.Device.{Reader}
 use Rattle.ssim_records.specs.Header.{HeaderFields, SpellsHeader}
 use Rattle.ssim_records.specs.clauses.Reading.{Reading}
@@ -37,6 +37,13 @@ Follows old known new known' own (after.Cut number) =
     (ended_as new ≡ Whole (Broken (record_fault.Short number)))
     × HasLeft old known own (Whole (Broken (record_fault.Short number)))
 
+-- a section that follows begins with a block that was not read before, within the same limit
+abbrev pub BeginsLater : Reading → Reading → After → Type 0
+BeginsLater old new (after.Section number block) =
+    (new.limit ≡ old.limit) × (old.number < new.number) × (200 * new.number ≤ new.limit + 1)
+BeginsLater old new (after.End number) = Unit {0}
+BeginsLater old new (after.Cut number) = Unit {0}
+
 -- the blocks of a section after its first one were read
 pub record ReadsOwn (old : Reading) (left : Option (List ℕ)) (before : SectionBuilder) (new : Reading)
     (left' : Option (List ℕ)) (now : SectionBuilder) (after : After) : Type 0 where
@@ -46,6 +53,7 @@ pub record ReadsOwn (old : Reading) (left : Option (List ℕ)) (before : Section
       → HasRead b (blocks ++ own) now
   pub follows : (known known' : Option (List ℕ)) → Knows left left' known known'
       → Follows old known new known' own after
+  pub later : BeginsLater old new after
 
 -- The reader failed, or has more bytes than the limit: the next section is not read to its end.
 abbrev pub RefusesOwn : Reading → Option (List ℕ) → Reader → Reader → BaseFault → Type 0

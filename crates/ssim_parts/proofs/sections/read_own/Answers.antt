@@ -23,6 +23,7 @@ loop-next-init g c = record {
   open' = c.requires.open;
   limit_is = refl;
   few = c.requires.few;
+  rises = omega arith;
   own = [];
   none = begin-none;
   read = λ b blocks h. subst (λ (bs : List Block). HasRead b bs c.args.section.now)
@@ -54,10 +55,12 @@ loop-next-preserved g c =
     let more = next.number.1 in
     let records = c.in_ok-take-in-Ok-Some.ensures.records in
     let few = i.few in
+    let rises = i.rises in
     record {
       open' = c.next_block.ensures.ended ∙ ap ending_of answer;
       limit_is = c.next_block.ensures.limit ∙ i.limit_is;
       few = omega (arith, records, few, more);
+      rises = omega (arith, rises, more);
       own = i.own ++ (number, block) ∷ [];
       none = begin-more i.own (number, block) i.none
           (carrier-false (number, block) c.if-block-eq50.false);
@@ -86,6 +89,7 @@ returns-then-block-eq50-clause-ok g c =
     let limit = c.next_block.ensures.limit in
     let limit-is = i.limit_is in
     let small = c.requires.limit in
+    let rises = i.rises in
     record {
       own = i.own;
       none = i.none;
@@ -102,6 +106,7 @@ returns-then-block-eq50-clause-ok g c =
             _ _ _ i.own
             number block i.goes c.next_block.ensures.limit next.next next.number.0 known known' knows,
       );
+      later = (limit ∙ limit-is, omega (arith, rises, more), next.number.2);
     }
 
 pub overflow_add-result : goal.overflow_add-result
@@ -134,6 +139,7 @@ returns-in-Ok-None-clause-ok g c =
             (end-back c.frames_are_one.ensures.exist c.loop-next.blocks new _ _ next.next) known known'
             knows),
       );
+      later = tt;
     }
 
 pub returns-in-Err-Short-clause-ok : goal.returns-in-Err-Short-clause-ok
@@ -156,6 +162,7 @@ returns-in-Err-Short-clause-ok g c =
             (short-back c.frames_are_one.ensures.exist c.loop-next.blocks new _ _ n next.next
             next.number) known known' knows,
       );
+      later = tt;
     }
 
 pub returns-in-Err : goal.returns-in-Err

@@ -15,6 +15,7 @@ pub record Goes {R : Type 0} (state : R → Reader) (start reader : R) (old r : 
   pub open' : r.ended ≡ None
   pub limit_is : r.limit ≡ old.limit
   pub few : now.records ≤ r.number
+  pub rises : old.number ≤ r.number
   pub own : List Block
   pub none : BeginNone own
   pub read : (b : Before) (blocks : List Block) → HasRead b blocks before → HasRead b (blocks ++ own)

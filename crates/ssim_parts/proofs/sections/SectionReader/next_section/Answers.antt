@@ -1,16 +1,17 @@
 -- The blocks of a section are read, and what comes after them; or memory runs out, or the reader
 -- fails.
-use Rattle.std.proofs.Common.{rules, ◌≡◌, ◌∙◌, [], ◌∷◌, Option, Some, None, Err, inl, refl, sym, subst}
+use Rattle.std.proofs.Common.{rules, ◌≡◌, ◌∙◌, ◌<◌, [], ◌∷◌, Option, Some, None, Err, inl, refl, sym, subst}
 use Rattle.std.proofs.Common.{true≢false}
 use Rattle.ssim_records.specs.declared.fault.RecordFault.TheVariants.{Short}
 use Rattle.ssim_base.specs.Base.{Broken, Done}
 use Rattle.ssim_base.specs.declared.fault.BaseFault.TheVariants as fault
-use Rattle.ssim_parts.specs.Sections.{Block}
-use Rattle.ssim_parts.specs.clauses.Sections.{GivesSection, SectionsState}
+use Rattle.ssim_parts.specs.Sections.{Before, Block}
+use Rattle.ssim_parts.specs.clauses.Sections.{GivesSection, SectionsState, most_left}
 use Rattle.ssim_parts.specs.declared.sections.After.{After}
 use Rattle.ssim_parts.specs.internal.SectionBlocks.{HasRead}
-use Rattle.ssim_parts.specs.internal.SectionSteps.{Follows}
-use Rattle.ssim_parts.proofs.NextSections.{before-after, first-state, gives-last, gives-one}
+use Rattle.ssim_parts.specs.internal.SectionSteps.{BeginsLater, Follows}
+use Rattle.ssim_parts.proofs.NextSections.{before-after, fewer-next, fewer-none, first-state}
+use Rattle.ssim_parts.proofs.NextSections.{gives-last, gives-one, no-rest, rest-after}
 use Rattle.ssim_parts.proofs.NextSections.{heading_of}
 use Rattle.ssim_parts.proofs.NextSections.{no-memory, open-first, own-refused}
 use Rattle.ssim_parts.proofs.sections.SectionReader.next_section.Goals as goal
@@ -289,3 +290,103 @@ returns-in-Cut-clause-ok g c known known' knows =
     (Broken (Short c.in-Cut.number)) all.items section open'.0 own.none
     follows.0 follows.1 (c.cut_off.ensures before (record { first = first; later = own.own }) all)
     after))
+
+-- ---- fewer sections are left
+
+pub returns-in_ok-section-in-Section-clause-fewer : goal.returns-in_ok-section-in-Section-clause-fewer
+returns-in_ok-section-in-Section-clause-fewer g c =
+    let inside = c.self.inside in
+    let first = c.in-Some.first in
+    let before = heading_of inside.number inside.header inside.is_first inside.serial in
+    let after : Before = record {
+      header = (inside.number, inside.header);
+      notes = [];
+      serial = c.read_own.new.section.serial;
+    } in
+    let second : Block = (c.in-Section.number, c.in-Section.block) in
+    let next-is : inside.next ≡ Some first = sym c.take.ensures.value ∙ c.in-Some.is in
+    let state = first-state c.args.self.now before inside.next inside.blocks first c.self.view_is
+    next-is in
+    let later = subst (λ (a : After). BeginsLater inside.blocks c.read_own.new.blocks a) c.in-Section.is
+    c.in_ok-after.ensures.ok.later in
+    subst (λ (s : SectionsState). most_left
+    (record { before = after; next = Some second; reading = c.read_own.new.blocks }) < most_left s) state
+    (fewer-next before after first second inside.blocks c.read_own.new.blocks later)
+
+pub returns-in_ok-section-in-End-clause-fewer : goal.returns-in_ok-section-in-End-clause-fewer
+returns-in_ok-section-in-End-clause-fewer g c =
+    let inside = c.self.inside in
+    let first = c.in-Some.first in
+    let before = heading_of inside.number inside.header inside.is_first inside.serial in
+    let after : Before = record {
+      header = (inside.number, inside.header);
+      notes = [];
+      serial = c.read_own.new.section.serial;
+    } in
+    let next-is : inside.next ≡ Some first = sym c.take.ensures.value ∙ c.in-Some.is in
+    let state = first-state c.args.self.now before inside.next inside.blocks first c.self.view_is
+    next-is in
+    subst (λ (s : SectionsState). most_left
+    (record { before = after; next = c.take.new.self; reading = c.read_own.new.blocks }) < most_left s)
+    state
+    (subst (λ (n : Option Block). most_left
+    (record { before = after; next = n; reading = c.read_own.new.blocks })
+    < most_left (record { before = before; next = Some first; reading = inside.blocks }))
+    (sym c.take.ensures.after) (fewer-none before after first inside.blocks c.read_own.new.blocks))
+
+pub returns-in-Cut-clause-fewer : goal.returns-in-Cut-clause-fewer
+returns-in-Cut-clause-fewer g c =
+    let inside = c.self.inside in
+    let first = c.in-Some.first in
+    let before = heading_of inside.number inside.header inside.is_first inside.serial in
+    let after : Before = record {
+      header = (inside.number, inside.header);
+      notes = [];
+      serial = c.read_own.new.section.serial;
+    } in
+    let next-is : inside.next ≡ Some first = sym c.take.ensures.value ∙ c.in-Some.is in
+    let state = first-state c.args.self.now before inside.next inside.blocks first c.self.view_is
+    next-is in
+    subst (λ (s : SectionsState). most_left
+    (record { before = after; next = c.take.new.self; reading = c.read_own.new.blocks }) < most_left s)
+    state
+    (subst (λ (n : Option Block). most_left
+    (record { before = after; next = n; reading = c.read_own.new.blocks })
+    < most_left (record { before = before; next = Some first; reading = inside.blocks }))
+    (sym c.take.ensures.after) (fewer-none before after first inside.blocks c.read_own.new.blocks))
+
+-- ---- some sections are left
+
+pub returns-in_ok-section-in-Section-clause-rest : goal.returns-in_ok-section-in-Section-clause-rest
+returns-in_ok-section-in-Section-clause-rest g c known known' knows =
+    let inside = c.self.inside in
+    let after : Before = record {
+      header = (inside.number, inside.header);
+      notes = [];
+      serial = c.read_own.new.section.serial;
+    } in
+    let second : Block = (c.in-Section.number, c.in-Section.block) in
+    let own = c.in_ok-after.ensures.ok in
+    let follows = subst
+    (λ (a : After). Follows inside.blocks known c.read_own.new.blocks known' own.own a)
+    c.in-Section.is
+    (own.follows known known' knows) in
+    rest-after c.frames_are_one.ensures.exist after second c.read_own.new.blocks known' follows.0.0
+
+pub returns-in_ok-section-in-End-clause-rest : goal.returns-in_ok-section-in-End-clause-rest
+returns-in_ok-section-in-End-clause-rest g c known known' knows =
+    let after : Before = record {
+      header = (c.self.inside.number, c.self.inside.header);
+      notes = [];
+      serial = c.read_own.new.section.serial;
+    } in
+    no-rest c.take.new.self c.read_own.new.blocks known' after c.take.ensures.after
+
+pub returns-in-Cut-clause-rest : goal.returns-in-Cut-clause-rest
+returns-in-Cut-clause-rest g c known known' knows =
+    let after : Before = record {
+      header = (c.self.inside.number, c.self.inside.header);
+      notes = [];
+      serial = c.read_own.new.section.serial;
+    } in
+    no-rest c.take.new.self c.read_own.new.blocks known' after c.take.ensures.after
