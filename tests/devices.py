@@ -85,7 +85,7 @@ class Devices:
     def kept_by(self, name):
         """The file that a command keeps before it prints."""
         kept = {command: kept for command, _, kept in COMMANDS}[name]
-        return {kept: self.whole[name].files[kept]} if name.split()[0] in ("start", "merge", "carry", "convert") else {}
+        return {kept: self.whole[name].files[kept]} if name.split()[0] in ("start", "merge", "carry", "convert", "split") else {}
 
     # ---- the standard streams
 

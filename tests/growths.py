@@ -46,6 +46,9 @@ class Sweep:
         if answer.err != MEMORY:
             return "another line"
         kept_first = {**self.runs.start, "back": answer.files.get("back")} if self.name == "receive" else self.runs.start
+        if self.name == "split" and answer.out:
+            # The file of a section is kept before its line is printed.
+            kept_first = self.whole.files
         if answer.files not in (self.runs.start, kept_first):
             return "a file changed"
         return None if self.may_be_printed(answer.out) else "something was printed"
@@ -54,7 +57,7 @@ class Sweep:
         """Whether the command may print this before it is refused."""
         if self.name in ("withdraw", "publish"):
             return out in (b"", self.whole.out)
-        return out == b"" or self.name == "take" and self.is_front(out) or self.name == "receive"
+        return out == b"" or self.name in ("take", "split") and self.is_front(out) or self.name == "receive"
 
     def wrong_if_done(self, answer):
         if answer.status != 0:

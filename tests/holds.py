@@ -97,6 +97,9 @@ class Holds:
         self.refused("OUT of publish is a data set", "refused 93 Occupied planned.ssim", *publish, "planned.ssim")
         for name in "fdh.desk", "note", "mail.txt", "link to desk":
             self.refused("OUT of convert is no data set", f"refused 93 Occupied {name}", "convert", "utc", "season.ssim", name)
+        shutil.copyfile(self.path("fdh.desk"), self.path("new-Z7.ssim"))
+        self.refused("a name of split is a desk", "refused 93 Occupied new-Z7.ssim", "split", "season.ssim", "new-")
+        shutil.copyfile(self.path("season.ssim"), self.path("new-Z7.ssim"))
         receive = ["fdh.desk", "fdh.desk", "mail.txt"]
         for name in "mail.txt", "fdh.desk", "note", "link to desk", "season.ssim":
             self.refused("refused texts go to a file with bytes", f"refused 93 Occupied {name}", "receive", "--refused", name, *receive)
@@ -112,6 +115,8 @@ class Holds:
         self.count("messages replace a note", done.returncode != 0 and "another status", done)
         done = self.run("convert", "utc", "season.ssim", "planned.ssim")
         self.count("a data set replaces a data set", done.returncode != 0 and "another status", done)
+        done = self.run("split", "season.ssim", "new-")
+        self.count("a data set of a section replaces a data set", done.returncode != 0 and "another status", done)
 
     # ---- files that another program holds or changes
 
@@ -127,6 +132,9 @@ class Holds:
             for words in self.commands():
                 self.refused(f"{words[0]} of a file that is held", "refused 92 Busy fdh.desk", *words)
             self.refused("nothing is read before", "refused 92 Busy fdh.desk", "take", "missing", "fdh.desk", "missing")
+            os.rename(self.path("fdh.desk"), self.path("new-Z7.ssim"))
+            self.refused("a name of split that is held", "refused 92 Busy new-Z7.ssim", "split", "season.ssim", "new-")
+            os.rename(self.path("new-Z7.ssim"), self.path("fdh.desk"))
             done = self.run("texts", "fdh.desk")
             self.count("a file that is held is read", done.returncode != 0 and "another status", done)
         with open(self.path("back"), "wb") as file:

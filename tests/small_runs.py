@@ -70,6 +70,7 @@ COMMANDS = [
     ("convert", ["convert", "local", "desk", "new"], "new"),
     ("convert to the same mode", ["convert", "utc", "desk", "new"], "new"),
     ("select", ["select", "--station", "LHR", "--aircraft", "320", "--from", "1jul25", "desk", "LX544", "LX540"], None),
+    ("split", ["split", "season", "new-"], "new-LX.ssim"),
     ("export", ["export", "desk"], None),
     ("rehearse", ["rehearse", "season", "stations", "script"], None),
     ("explain a number", ["explain", "34"], None),

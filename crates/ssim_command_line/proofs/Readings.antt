@@ -16,7 +16,7 @@ use Rattle.ssim_command_line.specs.Line.{several_texts}
 use Rattle.ssim_command_line.specs.Line.{two_values, values_in}
 use Rattle.ssim_command_line.specs.Line.{Board, Calendar, Check, Diff, Explain, Export, Findings, History, Listing}
 use Rattle.ssim_command_line.specs.Line.{Merge, Page, Problems, Publish, Receive, Rehearse, Select, Show, Start}
-use Rattle.ssim_command_line.specs.Line.{Carry, Convert, Take, Texts, Tidy, Withdraw, mode_and_two}
+use Rattle.ssim_command_line.specs.Line.{Carry, Convert, Split, Take, Texts, Tidy, Withdraw, mode_and_two}
 use Rattle.ssim_command_line.specs.declared.command_line.ModeWord.{ModeWord}
 use Rattle.ssim_command_line.specs.Usage.{bare_program, leaf}
 use Rattle.ssim_command_line.proofs.PlainWords.{Outcome, outcome, plain_walked, step_at}
@@ -338,6 +338,7 @@ readers =
       row = command (codes "convert") three_values (mode_and_two Convert);
       reads = mode_plain (codes "convert") Convert;
     }
+    ∷ with_two (codes "split") Split
     ∷ with_three (codes "rehearse") Rehearse
     ∷ with_one (codes "explain") Explain
     ∷ []

@@ -49,6 +49,7 @@ pub data Line : Type 0 where
   Export : (desk : Text) → Line
   Select : (choice : ChoiceTexts) (file : Text) (flights : List Text) → Line
   Convert : (mode : ModeWord) (file out : Text) → Line
+  Split : (dataset prefix : Text) → Line
   Rehearse : (dataset stations script : Text) → Line
   Explain : (word : Text) → Line
 
@@ -93,6 +94,7 @@ line_of (request.Export desk) = Export desk.now
 line_of (request.Select choice file flights) =
     Select (choice_line choice) file.now (map (λ t. t.now) flights.items)
 line_of (request.Convert mode file out) = Convert mode file.now out.now
+line_of (request.Split dataset prefix) = Split dataset.now prefix.now
 line_of (request.Rehearse dataset stations script) = Rehearse dataset.now stations.now script.now
 line_of (request.Explain word) = Explain word.now
 
@@ -273,6 +275,7 @@ commands =
       make = λ rows. one_and_texts (Select (choice_of rows));
     }
     ∷ command (codes "convert") three_values (mode_and_two Convert)
+    ∷ command (codes "split") two_values (two Split)
     ∷ command (codes "rehearse") three_values (three Rehearse)
     ∷ command (codes "explain") one_value (one Explain)
     ∷ []

@@ -179,6 +179,11 @@ pub enum Request<'a> {
         file: &'a str,
         out: &'a str,
     },
+    /// Write a data set for each carrier of a data set of several carriers.
+    Split {
+        dataset: &'a str,
+        prefix: &'a str,
+    },
     /// Run a script on desks.
     Rehearse {
         dataset: &'a str,

@@ -31,6 +31,7 @@ pub(crate) enum CommandName {
     Export,
     Select,
     Convert,
+    Split,
     Rehearse,
     Explain,
 }

@@ -56,7 +56,7 @@ The files of the examples are in samples/.
 The commands by what they are for:
   each day:   receive, take, board, show, list, calendar, page, diff, history
   a desk:     start, texts, findings, withdraw, merge, carry, export, publish
-  a data set: check, problems, tidy, select, convert
+  a data set: check, problems, tidy, select, convert, split
   also:       explain, rehearse
 
 For each file that is read, - is standard input.
@@ -412,6 +412,27 @@ Texts then name the new dates. A data set holds no message: start a desk of it.
 Exit status: 0, also if dates are left; 1 if FILE is refused or cannot be read,
 a flight has more than 99 variations, OUT cannot be written or is held by
 another command (92), or OUT is a file of another kind (93)."
+        "split" [First("DATASET"), Second("PREFIX")] => Split(dataset, prefix)
+        "Write a data set for each carrier of a data set of several carriers"
+        "\
+Example:
+  ssimdesk split world.ssim new-
+writes the files 'new-Z7.ssim' and 'new-Z7-2.ssim', and prints what becomes of
+each carrier:
+  Z7 kept new-Z7.ssim records 74 flights 41 notes 0
+  LX refused 37 Frequency record 96
+  Z7 kept new-Z7-2.ssim records 76 flights 42 notes 0
+  carriers 3 kept 2 refused 1
+The number of records is without fill and without the header. Before the line of
+a carrier are its notes, as 'check' prints them. 'note Continuation' has the
+number of a trailer whose end code is C and no carrier follows, or E and one
+does. The airline is '?' if the carrier record is invalid.
+A file 'new-LX.ssim' of another day stays if LX is refused. PREFIX may end with
+a folder, as 'new/'.
+Exit status: 0, also if carriers are refused; 1 if the data set does not begin
+with a header and a carrier record, or cannot be read to its end, or a file
+cannot be written, is held by another command (92) or is of another kind (93).
+The files before that one are written."
         "rehearse" [First("DATASET"), Second("STATIONS"), Third("SCRIPT")]
             => Rehearse(dataset, stations, script)
         "Run a script of takes and merges on several desks: do they agree?"
@@ -529,6 +550,10 @@ const WORDS: &[(Told, &str)] = &[
     ),
     (Both("fourth", "OUT"), "The file of texts to write"),
     (Name("MODE"), "The time mode of OUT: utc or local"),
+    (
+        Name("PREFIX"),
+        "What the names of the files begin with, before the airline",
+    ),
     (
         Name("DATASET"),
         "The data set's file, 200 bytes a record; - is standard input",

@@ -10,7 +10,7 @@ const MESSAGE: &str = "correct the line, or ask the originator for the message a
 
 const WHOLE: &str = "ask for the whole data set; the end of a file is often lost in a transfer";
 
-const ONE_AIRLINE: &str = "divide the file: a data set has one airline";
+const ONE_AIRLINE: &str = "split the file: a data set has one airline";
 
 const UNSUPPORTED: &str = "not supported: split the flight's periods, or write weekly periods";
 

@@ -46,6 +46,7 @@ made_so file files answer (made.DataSet set) makes r is = makes r is
 made_so file files answer (made.Desk desk) makes r is = makes r is
 made_so file files answer (made.Part desk choice) makes r is = makes r is
 made_so file files answer (made.Texts place desk names) makes r is = makes r is
+made_so file files answer (made.Sections dataset prefix) makes r is = makes r is
 
 -- ---- what was done
 

@@ -13,7 +13,7 @@ use Rattle.ssim_program.specs.Files.{Files, Kept, with_kept}
 use Rattle.ssim_program.specs.Calls.{CommandsAreEvents, Continues, GoesOn, IsCall, IsEventOf, Leads}
 use Rattle.ssim_program.specs.Offices.{Event, Happened, History, Leaves, Then, files_of}
 use Rattle.ssim_program.specs.Offices.{StartKept, TakeKept, ReceiveKept, MergeKept, CarryKept}
-use Rattle.ssim_program.specs.Offices.{WithdrawKept, Unchanged, Came}
+use Rattle.ssim_program.specs.Offices.{WithdrawKept, Unchanged, Came, AllCame}
 use Rattle.ssim_program.specs.Receiving.{Receipt, received_files, refused_texts}
 use Rattle.ssim_program.specs.Runs.{Runs}
 use Rattle.ssim_program.specs.World.{World}
@@ -226,6 +226,11 @@ module _ (old new : Files) (acts done later : List Act) (split : acts ≡ done +
       (set.0, refl)
       (λ is. same_some new ((out, set.0) ∷ old) (is
       ∙ ap (λ (k : Kept). with_kept k (Some old)) (ap kept_by are)))
+  of_line (line.Split dataset prefix) made = record {
+    event = AllCame (kept_by done);
+    is = inl (kept_by done, refl);
+    leaves = left;
+  }
   of_line (line.Findings not_acted desk flights) (bytes, is, are) =
       looks _ old new acts done later split left (ap kept_by are)
   of_line (line.Export desk) (one, read, (bytes, is, are)) =

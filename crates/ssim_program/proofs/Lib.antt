@@ -15,6 +15,8 @@ pub mod RefusalTexts
 pub mod Rehearsing
 pub mod Outcomes
 pub mod Scripted
+pub mod Splitting
+pub mod RefusedSections
 pub mod Withdrawing
 pub mod Carrying
 pub mod CarriedLines

@@ -17,7 +17,7 @@ use Rattle.ssim_program.specs.Files.{Files, Kept, file_of, with_kept}
 use Rattle.ssim_command_line.specs.Line.{Text}
 use Rattle.ssim_program.specs.Made.{HasFile, ReadsFile, base_in}
 use Rattle.ssim_program.specs.Offices.{Event, StartKept, TakeKept, ReceiveKept, MergeKept, CarryKept}
-use Rattle.ssim_program.specs.Offices.{WithdrawKept, Unchanged, Copied, Came}
+use Rattle.ssim_program.specs.Offices.{WithdrawKept, Unchanged, Copied, Came, AllCame, origin_among}
 use Rattle.ssim_program.specs.Offices.{Leaves, Origin, Was, Started, Took, Merged, Carried, Withdrew}
 use Rattle.ssim_program.specs.Offices.{Given, origin_of}
 use Rattle.ssim_program.specs.Offices.{IsReceived, TookSome, origin_of_refused}
@@ -152,6 +152,19 @@ received_comes refused desk out names receipts old new name
         (origin_of_refused (Some other) texts name) (same_some new ((out, bytes) ∷ mid) all)
         desk_comes (written other name texts old mid (Given texts) refl refl)
 
+-- several files have come
+all_came : (files : Kept) (now new : Files) (name : Text) (origin : Origin) (old : Files)
+    → Some new ≡ with_kept files (Some now) → Comes origin old (file_of now name)
+    → Comes (origin_among files name origin) old (file_of new name)
+all_came [] now new name origin old is was =
+    subst (λ (all : Files). Comes origin old (file_of all name)) (sym (some-is is)) was
+  where
+    some-is : {A : Type 0} {a b : A} → Some a ≡ Some b → a ≡ b
+    some-is same = cc
+all_came (file ∷ later) now new name origin old is was =
+    all_came later (file ∷ now) new name (if bytes_eq file.0 name then Given file.1 else origin) old is
+    (written_over file.0 name file.1 old now (file ∷ now) (Given file.1) origin refl refl was)
+
 pub comes : (event : Event) (old new : Files) (name : Text) → Leaves event old new
     → Comes (origin_of event name) old (file_of new name)
 comes (StartKept dataset stations out) old new name
@@ -195,3 +208,4 @@ comes (Copied from to) old new name (bytes, is, all) =
     written to name bytes old new (Was from) all (sym is)
 comes (Came other bytes) old new name leaves =
     written other name bytes old new (Given bytes) leaves refl
+comes (AllCame files) old new name leaves = all_came files old new name (Was name) old leaves refl

@@ -31,7 +31,7 @@ use Rattle.ssim_command_line.specs.Line.{Withdraw}
 use Rattle.ssim_command_line.specs.Line.{Carry, ChoiceTexts}
 use Rattle.ssim_command_line.specs.Line.{Receive, Texts, Show, History, Calendar, Findings, Export}
 use Rattle.ssim_command_line.specs.Line.{Rehearse, Explain, Page, Board, Diff, Publish, Listing}
-use Rattle.ssim_command_line.specs.Line.{Convert, Select}
+use Rattle.ssim_command_line.specs.Line.{Convert, Select, Split}
 use Rattle.ssim_command_line.specs.declared.command_line.ListForm.{ListForm}
 use Rattle.ssim_command_line.specs.declared.command_line.ModeWord.{ModeWord}
 use Rattle.ssim_program.specs.Acts.{Act, Print, Keep, prints, prints_then}
@@ -47,6 +47,7 @@ use Rattle.ssim_program.specs.Made.{AreLinesOn, base_in, data_set_in, problem_li
 use Rattle.ssim_program.specs.Made.{RefusesLoad}
 use Rattle.ssim_program.specs.Messages.{flights_in, flights_on, message_texts, messages_on}
 use Rattle.ssim_program.specs.Places.{place_in}
+use Rattle.ssim_program.specs.Splitting.{split}
 use Rattle.ssim_program.specs.Receiving.{places_in, receipt_lines, received, received_files}
 use Rattle.ssim_program.specs.Timetables.{carrier_of, shown_in, timetable_in}
 use Rattle.ssim_program.specs.Withdrawing.{withdrawn}
@@ -346,5 +347,6 @@ answers (Findings not_acted file flights) files = prints (findings files not_act
 answers (Export file) files = export files file
 answers (Select choice file flights) files = select files choice file flights
 answers (Convert mode file out) files = convert files mode file out
+answers (Split dataset prefix) files = split files dataset prefix
 answers (Rehearse dataset stations script) files = prints (rehearse files dataset stations script)
 answers (Explain word) files = prints (explain files word)

@@ -1,19 +1,20 @@
 -- Calls of the program, each of which is one event of a history.
 use Rattle.std.specs.Prelude.{◌≡◌, ◌⊎◌, ℕ, List, [], ◌∷◌, Option, Some, Result}
 use Rattle.ssim_command_line.specs.Line.{Line, Text, Start, Take, Receive, Merge, Carry, Withdraw}
-use Rattle.ssim_command_line.specs.Line.{Convert, Publish}
+use Rattle.ssim_command_line.specs.Line.{Convert, Publish, Split}
 use Rattle.ssim_command_line.specs.Usage.{Names}
 use Rattle.ssim_program.specs.Answers.{answers}
-use Rattle.ssim_program.specs.Files.{Files}
+use Rattle.ssim_program.specs.Files.{Files, Kept}
 use Rattle.ssim_program.specs.Offices.{Event, Happened, History, Leaves, Then, files_of}
 use Rattle.ssim_program.specs.Offices.{StartKept, TakeKept, ReceiveKept, MergeKept, WithdrawKept}
-use Rattle.ssim_program.specs.Offices.{CarryKept, Unchanged, Came}
+use Rattle.ssim_program.specs.Offices.{CarryKept, Unchanged, Came, AllCame}
 use Rattle.ssim_program.specs.Receiving.{Receipt}
 use Rattle.ssim_program.specs.World.{Does, World}
 use Rattle.ssim_program.specs.declared.refusal.Refusal.{Refusal}
 
 -- The event that a command is, if it keeps a file: its desk is kept; or, of `receive`, the refused
--- texts alone; or, of `publish` and `convert`, its messages or its data set come.
+-- texts alone; or, of `publish` and `convert`, its messages or its data set come; or, of `split`, its
+-- data sets come, all or those before a refusal.
 abbrev pub IsEventOf : Line → Event → Type 0
 IsEventOf (Start dataset stations out) event = event ≡ StartKept dataset stations out
 IsEventOf (Take desk out texts) event = event ≡ TakeKept desk out texts
@@ -25,6 +26,7 @@ IsEventOf (Carry mine theirs out) event = event ≡ CarryKept mine theirs out
 IsEventOf (Withdraw desk out references) event = event ≡ WithdrawKept desk out references
 IsEventOf (Publish from to reference out) event = (mail : List ℕ) × (event ≡ Came out mail)
 IsEventOf (Convert mode file out) event = (set : List ℕ) × (event ≡ Came out set)
+IsEventOf (Split dataset prefix) event = (sets : Kept) × (event ≡ AllCame sets)
 IsEventOf line event = ⊥
 
 -- a command leads from files to files by one event: its own, or that no file changed

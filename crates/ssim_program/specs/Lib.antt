@@ -14,6 +14,7 @@ pub mod Carrying
 pub mod Receiving
 pub mod Exports
 pub mod Converting
+pub mod Splitting
 pub mod Answers
 pub mod Again
 pub mod World

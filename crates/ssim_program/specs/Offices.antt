@@ -17,7 +17,7 @@ use Rattle.ssim_program.specs.Acts.{Act, is_whole, kept_by, printed_by}
 use Rattle.ssim_program.specs.Answer.{Answer}
 use Rattle.ssim_program.specs.Answers.{answers, carry, merge, start, take, withdraw}
 use Rattle.ssim_program.specs.Carrying.{MeansTheSame}
-use Rattle.ssim_program.specs.Files.{Files, file_of, with_kept}
+use Rattle.ssim_program.specs.Files.{Files, Kept, file_of, with_kept}
 use Rattle.ssim_command_line.specs.Line.{Line, Text}
 use Rattle.ssim_program.specs.Receiving.{IsAccepted, Receipt, received, received_files}
 use Rattle.ssim_program.specs.Receiving.{refused_texts, texts_received}
@@ -30,8 +30,8 @@ use Rattle.ssim_program.specs.print.Refusal.{IsMemory}
 
 -- What happens to named files: a command keeps a desk; the files stay as they are, as after a command
 -- that looks or is refused; a file is copied under another name; or a file comes from elsewhere, as
--- a telegram does. The messages that `publish` keeps are such a file, and so is the data set that
--- `convert` keeps: they make no desk.
+-- a telegram does; or several come, one after another. The messages that `publish` keeps are such a
+-- file, and so are the data sets that `convert` and `split` keep: they make no desk.
 pub data Event : Type 0 where
   StartKept : (dataset stations out : Text) → Event
   TakeKept : (desk out : Text) (texts : List Text) → Event
@@ -43,6 +43,7 @@ pub data Event : Type 0 where
   Unchanged : Event
   Copied : (from to : Text) → Event
   Came : (name : Text) (bytes : List ℕ) → Event
+  AllCame : (files : Kept) → Event
 
 -- a history: the files at the beginning, and then events, each with the files after it
 pub data History : Type 0 where
@@ -81,6 +82,7 @@ Leaves Unchanged old new = new ≡ old
 Leaves (Copied from to) old new =
     (bytes : List ℕ) × (file_of old from ≡ Some bytes) × (new ≡ (to, bytes) ∷ old)
 Leaves (Came name bytes) old new = new ≡ (name, bytes) ∷ old
+Leaves (AllCame files) old new = Some new ≡ with_kept files (Some old)
 
 -- each event of the history leaves the files after it
 abbrev pub Happened : History → Type 0
@@ -110,6 +112,12 @@ origin_of_refused None texts name = Was name
 origin_of_refused (Some refused) texts name =
     if bytes_eq refused name then Given texts else Was name
 
+-- The file of this name comes from there, or is the last one of these that came under the name.
+abbrev pub origin_among : Kept → Text → Origin → Origin
+origin_among [] name origin = origin
+origin_among (file ∷ later) name origin =
+    origin_among later name (if bytes_eq file.0 name then Given file.1 else origin)
+
 -- where the file of this name comes from
 abbrev pub origin_of : Event → Text → Origin
 origin_of (StartKept dataset stations out) name =
@@ -126,6 +134,7 @@ origin_of (ReceiveKept refused desk out names receipts) name = if bytes_eq out n
     then TookSome desk names receipts else origin_of_refused refused (refused_texts receipts) name
 origin_of (Copied from to) name = if bytes_eq to name then Was from else Was name
 origin_of (Came other bytes) name = if bytes_eq other name then Given bytes else Was name
+origin_of (AllCame files) name = origin_among files name (Was name)
 origin_of Unchanged name = Was name
 
 -- ---- what was brought

@@ -1,5 +1,6 @@
 -- Computed examples.
 pub mod Scripts
+pub mod Sections
 pub mod Histories
 pub mod Turns
 pub mod Names

@@ -11,4 +11,5 @@ pub mod Print
 pub mod Carry
 pub mod Choices
 pub mod SomeFlights
+pub mod Splitting
 pub mod Diff

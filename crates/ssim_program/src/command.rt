@@ -27,6 +27,7 @@ pub(crate) mod publish;
 pub(crate) mod receive;
 pub(crate) mod select;
 pub(crate) mod show;
+pub(crate) mod split;
 pub(crate) mod start;
 pub(crate) mod take;
 pub(crate) mod texts;
@@ -135,6 +136,10 @@ pub(crate) fn make<'r, S: Store>(
             flights,
         } => select::select(alloc, choice, file, flights, store),
         Request::Convert { mode, file, out } => convert::convert(alloc, *mode, file, out, store),
+        Request::Split { dataset, prefix } => Ok(Made::Sections {
+            dataset: *dataset,
+            prefix: *prefix,
+        }),
         Request::Rehearse {
             dataset,
             stations,

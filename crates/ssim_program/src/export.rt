@@ -10,7 +10,8 @@ ghost use Rattle.ssim_schedule.specs.clauses.Schedule.{days_in};
 ghost use Rattle.ssim_desk.specs.Desk.{days_of_desk};
 ghost use Rattle.ssim_parts.specs.Chosen.{chosen_days};
 ghost use Rattle.ssim_program.specs.Again.{GrowsByItself};
-ghost use Rattle.ssim_program.specs.Exports.{ReadsAsItself};
+ghost use Rattle.ssim_program.specs.Exports.{HasNoExport, ReadsAsItself};
+ghost use Rattle.ssim_program.specs.Made.{IsExport};
 ghost use Rattle.ssim_program.specs.internal.Export.{HasNoExportIn, IsWritten, PrintsExport};
 ghost use Rattle.ssim_program.specs.print.Paper.{Paper};
 
@@ -115,6 +116,32 @@ pub(crate) fn export_bytes(
     let mut bytes = Vec::new(alloc);
     let mut out = Printer::new(&mut bytes);
     let written = schedule.export_in(frame, &mut out);
+    let Printer {
+        writer,
+        failures: _,
+        flushed: _,
+    } = out;
+    // No effect at run time. The proof reads what the writer holds from this use.
+    let _ = &*writer;
+    match written {
+        Ok(()) => Ok(bytes),
+        Err(fault) => match fault {
+            // A vector takes all bytes, or memory is out.
+            ExportFault::WriteFault => Err(ExportFault::Memory),
+            _ => Err(fault),
+        },
+    }
+}
+
+/// The canonical export of a data set, in memory.
+pub(crate) fn data_set_bytes(alloc: Global, data_set: DataSet) -> Result<Vec<u8>, ExportFault>
+    ensures ok { IfOk result (λ bytes. IsExport data_set (days_of data_set) bytes.items) }
+    ensures err { IfErr result (HasNoExport data_set (days_of data_set)) }
+    ensures again { IfOk result (λ bytes. ReadsAsItself bytes.items) }
+{
+    let mut bytes = Vec::new(alloc);
+    let mut out = Printer::new(&mut bytes);
+    let written = export_data_set(data_set, &mut out);
     let Printer {
         writer,
         failures: _,

@@ -5,6 +5,7 @@ ghost use Rattle.ssim_program.specs.World.{Does, Performs, world};
 ghost use Rattle.ssim_program.specs.internal.Program.{MadeItself, keeps, will};
 ghost use Rattle.ssim_program.specs.print.Paper.{Paper};
 
+use crate::command::split::split_file;
 use crate::command::take::take_texts;
 use crate::export::{export_desk, export_part, export_set};
 use crate::hold::keep_content;
@@ -65,5 +66,6 @@ pub(crate) fn finish<S: Store, W: Write>(
         Made::Desk(desk) => export_desk(desk, out),
         Made::Part { desk, choice } => export_part(desk, &choice, out),
         Made::Texts { place, desk, names } => take_texts(alloc, &place, desk, names, store, out),
+        Made::Sections { dataset, prefix } => split_file(alloc, dataset, prefix, store, out),
     }
 }

@@ -69,4 +69,10 @@ pub(crate) enum Made<'n, H: Hold + Drop> {
         desk: Intake,
         names: &'n [&'n str],
     },
+    /// The file of a data set of several carriers, which is to be split, and what the names of the
+    /// kept files begin with.
+    Sections {
+        dataset: &'n str,
+        prefix: &'n str,
+    },
 }

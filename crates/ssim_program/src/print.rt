@@ -11,6 +11,7 @@ pub(crate) mod printed_line;
 pub(crate) mod printer;
 pub(crate) mod problem;
 pub(crate) mod refusal_line;
+pub(crate) mod section;
 pub(crate) mod step;
 
 /// Values are printed each in a line of its own.

@@ -11,6 +11,7 @@ use Rattle.ssim_program.specs.Answer.{Answer}
 use Rattle.ssim_program.specs.Answers.{take_each}
 use Rattle.ssim_program.specs.Exports.{export_in}
 use Rattle.ssim_program.specs.Files.{Files}
+use Rattle.ssim_program.specs.Splitting.{split}
 use Rattle.ssim_program.specs.Runs.{PrintsHelp, RefusesHelp, SaysWrong}
 use Rattle.ssim_program.specs.World.{PrintsRefusal}
 use Rattle.ssim_program.specs.print.Paper.{Paper}
@@ -59,6 +60,8 @@ Makes file files answer (made.Part desk choice) = (result : Result (List Act) Re
     → answer result
 Makes file files answer (made.Texts place desk names) = (result : Result (List Act) Refusal)
     → take_each files (file place) (map (λ t. t.now) names.now) desk result → answer result
+Makes file files answer (made.Sections dataset prefix) = (result : Result (List Act) Refusal)
+    → split files dataset.now prefix.now result → answer result
 
 -- the lines are what a command has made, or it is refused
 abbrev pub AreLines : {A H : Type 0} → Result (Vec ℕ A) Refusal → Result (Made H) Refusal → Type 0
@@ -84,6 +87,7 @@ will file files (made.Part desk choice) =
     prints (export_in desk.base.records (chosen_days choice (days_of_desk desk)))
 will file files (made.Texts place desk names) =
     take_each files (file place) (map (λ t. t.now) names.now) desk
+will file files (made.Sections dataset prefix) = split files dataset.now prefix.now
 
 -- what a data set, a desk or a part prints is read as itself; nothing is said of other things made
 abbrev pub MadeItself : {H : Type 0} → Made H → Option (List ℕ) → Option (List ℕ) → Type 0

@@ -8,6 +8,7 @@ use Rattle.ssim_program.specs.Answer.{Answer}
 use Rattle.ssim_program.specs.Answers as answer
 use Rattle.ssim_program.specs.Answers.{answers}
 use Rattle.ssim_program.specs.Files.{Files}
+use Rattle.ssim_program.specs.Splitting.{split}
 use Rattle.ssim_program.specs.internal.Program.{Answers, AreLines, MakesOr}
 use Rattle.ssim_program.specs.declared.made.Made.{Made}
 use Rattle.ssim_program.specs.declared.made.Made.TheVariants as made
@@ -32,10 +33,15 @@ lines_of file files answer (Ok v) (Ok (made.DataSet set)) is same = absurd same
 lines_of file files answer (Ok v) (Ok (made.Desk desk)) is same = absurd same
 lines_of file files answer (Ok v) (Ok (made.Part desk choice)) is same = absurd same
 lines_of file files answer (Ok v) (Ok (made.Texts place desk names)) is same = absurd same
+lines_of file files answer (Ok v) (Ok (made.Sections dataset prefix)) is same = absurd same
 lines_of file files answer (Ok v) (Err why) is same = absurd same
 lines_of file files answer (Err why) (Ok m) is same = absurd same
 lines_of file files answer (Err why) (Err refusal) is same =
     subst (λ (e : Refusal). answer (Err e)) (sym same) is
+
+sections_made : {H : Type 0} (file : H → List ℕ) (files : Option Files) (dataset prefix : Bor (List ℕ))
+    → MakesOr file files (split files dataset.now prefix.now) (Ok (made.Sections dataset prefix))
+sections_made file files dataset prefix = λ result is. is
 
 pub returns-in-Start-clause-answer : goal.returns-in-Start-clause-answer
 returns-in-Start-clause-answer g c = made_of _ _ _ _ _ c.in-Start.is c.start.ensures.answer
@@ -73,6 +79,18 @@ returns-in-Publish-clause-answer g c = made_of _ _ _ _ _ c.in-Publish.is c.publi
 
 pub returns-in-Convert-clause-answer : goal.returns-in-Convert-clause-answer
 returns-in-Convert-clause-answer g c = made_of _ _ _ _ _ c.in-Convert.is c.convert.ensures.answer
+
+pub returns-in-Tidy-clause-answer : goal.returns-in-Tidy-clause-answer
+returns-in-Tidy-clause-answer g c = made_of _ _ _ _ _ c.in-Tidy.is c.tidy.ensures.answer
+
+pub returns-in-Export-clause-answer : goal.returns-in-Export-clause-answer
+returns-in-Export-clause-answer g c = made_of _ _ _ _ _ c.in-Export.is c.export.ensures.answer
+
+pub returns-in-Split-clause-answer : goal.returns-in-Split-clause-answer
+returns-in-Split-clause-answer g c = let old = g.S.Store.files c.args.store.now in
+    made_of {H = g.row.S-Hold.Denot} g.S.Hold.Hold.file old _ _
+    (Ok (made.Sections c.in-Split.dataset c.in-Split.prefix)) c.in-Split.is
+    (sections_made g.S.Hold.Hold.file old c.in-Split.dataset c.in-Split.prefix)
 
 pub returns-in-Check-clause-answer : goal.returns-in-Check-clause-answer
 returns-in-Check-clause-answer g c = let old = g.S.Store.files c.args.store.now in

@@ -86,3 +86,6 @@ returns-in-Part-clause-does g c =
 
 pub returns-in-Desk-clause-does : goal.returns-in-Desk-clause-does
 returns-in-Desk-clause-does g c = over _ _ _ _ _ _ _ c.in-Desk.is (c.export_desk.ensures.printed (g.S.Store.files c.args.store.now) (g.S.Store.failures c.args.store.now))
+
+pub returns-in-Sections-clause-does : goal.returns-in-Sections-clause-does
+returns-in-Sections-clause-does g c = over _ _ _ _ _ _ _ c.in-Sections.is c.split_file.ensures
