@@ -4,7 +4,8 @@ Each case has a data set or a desk, which is converted to the other time mode. E
 (flight_dates.py) is moved by itself, or is left for a reason; what has moved is divided and written anew. `convert` has to keep these bytes
 and to print the periods that are left and the numbers of all, or to refuse, and then no file changes. In a case of `back` nothing is left,
 and the data set comes back as `tidy` writes it; on each `board` the lines are the same but for the dates of origin. In a case of `own` the
-mode is that of the file: what is kept is what `tidy` or `export` prints. In a case of `edge` dates are at the ends of the calendar. In a case
+mode is that of the file: what is kept is what `tidy` or `export` prints. In a case of `parts` flights and stations of a data set are chosen
+before or after: that is the same, if no date is left by `date`, and else there are more dates if they are chosen before. In a case of `edge` dates are at the ends of the calendar. In a case
 of `refused` a file or a word is invalid.
 """
 import collections
@@ -17,10 +18,10 @@ import small
 from chapter7 import DAY, date, day_of, with_column
 from flight_dates import Leg, Timetable, divided, period_line
 from messages import Stations, written
-from parts import frame_of, part
+from parts import choice, frame_of, part, selected
 from room import Answer
 
-KINDS = ["any"] * 4 + ["back"] * 3 + ["own", "edge", "refused"]
+KINDS = ["any"] * 4 + ["back"] * 3 + ["own", "parts", "edge", "refused"]
 OTHER = {"U": "local", "L": "utc"}
 SAME = {"U": "utc", "L": "local"}
 LETTER = {"utc": "U", "local": "L"}
@@ -213,7 +214,7 @@ def nearly_plain(rng, line):
 def make(rng, room, kind):
     """Writes the file FILE, a data set or a desk."""
     season, _ = room.write_base(rng, "FILE", records_of(rng, kind))
-    if kind != "back" and rng.random() < 0.6:
+    if kind not in ("back", "parts") and rng.random() < 0.6:
         room("start", "FILE", "stations", "desk")
         for _ in range(rng.choice([0, 1, 3])):
             room.write("text", messages.written(messages.message(rng, season)))
@@ -260,6 +261,27 @@ def of_back(rng, room, mode, own, whole):
         yield f"board {station} {near}", *map(without_origins, boards)
 
 
+def of_parts(rng, room, mode, table):
+    """Flights and stations are chosen before or after."""
+    chosen = choice(rng, table)
+    chosen.first = chosen.last = None
+    chosen.aircraft = []
+    room.write("part", selected(rng, room, table, chosen).out)
+    after, before = room("convert", mode, "FILE", "whole"), room("convert", mode, "part", "BEFORE")
+    if after.status or before.status:
+        room.counts["a part or a whole that is not converted"] += 1
+        return
+    room.write("AFTER", selected(rng, room, table, chosen, "whole").out)
+    if any(line.split()[5] == b"date" for line in after.out.splitlines() if line.startswith(b"left")):
+        early, late = (Timetable(room.read(name)).flights for name in ("BEFORE", "AFTER"))
+        missing = {flight: set(days) - set(early.get(flight, {})) for flight, days in late.items()}
+        room.counts["dates chosen before or after, some left by date"] += sum(map(len, late.values()))
+        yield "dates that are not there if chosen before", {flight: days for flight, days in missing.items() if days}, {}
+    else:
+        room.counts["chosen before or after"] += 1
+        yield "chosen before or after", room.read("BEFORE"), room.read("AFTER")
+
+
 def of_refused(rng, room, mode):
     """A file or a word that is refused."""
     what = rng.choice(["no file", "cut", "occupied", "text", "mode", "words"])
@@ -302,6 +324,8 @@ def compared(rng, room, kind):
         yield from of_own_mode(room, own, whole)
     elif kind == "back":
         yield from of_back(rng, room, mode, own, whole)
+    elif kind == "parts":
+        yield from of_parts(rng, room, mode, Timetable(whole))
     else:
         out = rng.choice(["OUT", "OUT", "FILE"]) if not room.is_desk("FILE") else "OUT"
         _, answer, there = of_other_mode(whole, mode, stations_of(data))

@@ -4,7 +4,8 @@ Each case has a data set or a desk, and choices of its flights, dates, stations 
 writes (flight_dates.py) each is taken or left by itself, and what is taken is divided and written anew: `select` has to print these bytes,
 or the refusal of their export. In a case of `laws` no choice is the whole, `tidy` leaves a part as it is, a part of a part has the dates of
 both choices in either order, no flight has more periods than in the whole, and two spans that meet have together all dates. In a case of
-`words` some words are invalid, and the refusal is that of the first of them by kind.
+`messages` flights and dates of a data set are chosen, and then a desk that begins from the part takes messages: each message is answered as
+by a desk of the whole, and the chosen dates are as they are there. In a case of `words` some words are invalid, and the refusal is that of the first of them by kind.
 """
 import messages
 import small
@@ -12,7 +13,7 @@ from chapter7 import DAY, FILL, date, with_column, with_serial
 from flight_dates import Timetable, cover, divided
 from room import Answer
 
-KINDS = ["choice", "choice", "choice", "laws", "words"]
+KINDS = ["choice", "choice", "choice", "laws", "messages", "words"]
 AIRCRAFT = ["320", "77W", "32 ", " 32", "E9 ", " E9", "3 2", "  7", "7  "]
 FIRST, LAST = small.datetime.date(2000, 1, 1), small.datetime.date(2099, 12, 31)
 ORDER = ["flight", "station", "aircraft", "from", "to", "airline", "turned"]
@@ -120,10 +121,11 @@ def make(rng, room, kind):
     records = [with_column(line, 73, rng.choice(AIRCRAFT)) if line[:1] == b"3" and rng.random() < 0.5 else line
                for line in small.data_set(rng)]
     season, _ = room.write_base(rng, "FILE", records)
-    if rng.random() < 0.5:
+    room.texts = [messages.written(messages.message(rng, season)) for _ in range(rng.choice([0, 1, 3]))]
+    if kind != "messages" and rng.random() < 0.5:
         room("start", "FILE", "stations", "desk")
-        for _ in range(rng.choice([0, 1, 3])):
-            room.write("text", messages.written(messages.message(rng, season)))
+        for text in room.texts:
+            room.write("text", text)
             room("take", "desk", "desk", "text")
         room.copy("desk", "FILE")
     return kind
@@ -181,6 +183,28 @@ def of_laws(rng, room, table, whole):
     yield "all dates", {flight: dates for flight, dates in together.items() if dates}, table.flights
 
 
+def of_messages(rng, room, table):
+    """What is compared of a part that takes messages, beside the whole that takes them."""
+    chosen = choice(rng, table)
+    chosen.stations, chosen.aircraft = [], []
+    room.write("part", selected(rng, room, table, chosen).out)
+    found = {}
+    for name in "FILE", "part":
+        answers = [room("start", name, "stations", f"{name}.desk")]
+        for text in room.texts:
+            room.write("text", text)
+            answers.append(room("take", f"{name}.desk", f"{name}.desk", "text"))
+        dates = Timetable(room.exported(f"{name}.desk") or b"").flights
+        found[name] = {(flight, day): legs for flight, days in dates.items() for day, legs in days.items()
+                       if chosen.takes(flight, day, legs)}, answers
+    if room.exported("FILE.desk") is None:
+        room.counts["a desk that is not exported"] += 1
+        return
+    room.counts["chosen dates after messages"] += len(found["part"][0])
+    yield "answers", found["part"][1], found["FILE"][1]
+    yield "dates", found["part"][0], found["FILE"][0]
+
+
 def compared(rng, room, kind):
     if kind == "words":
         yield from of_words(rng, room, "select")
@@ -192,6 +216,9 @@ def compared(rng, room, kind):
     table = Timetable(whole)
     if kind == "laws":
         yield from of_laws(rng, room, table, whole)
+        return
+    if kind == "messages":
+        yield from of_messages(rng, room, table)
         return
     for _ in range(6):
         chosen = choice(rng, table)
