@@ -1,8 +1,8 @@
 #!/usr/bin/env python3
 """Compares what `explain` prints of each number, and of a file for each, with docs/REFUSALS.md: explain.py PROGRAM [page]
 
-docs/REFUSALS.md has a row for each refusal, whose name, meaning and remedy `explain` prints. No other number has a refusal. A
-file is explained for each number that a file alone may be refused by: the first line has the place, the second the meaning, the
+docs/REFUSALS.md has a row for each refusal, whose name, meaning and remedy `explain` prints. No other number has a refusal. Of a name, in
+any case, the same is printed as of the number, and of a line that a command printed that line. A file is explained for each number that a file alone may be refused by: the first line has the place, the second the meaning, the
 third what is there, and the last what to do. The byte 1 in any column of any record is explained by the field that it makes invalid. Files
 of other programs are named, and what other systems take of texts is known, as docs/FORMATS.md has them. The last line is 'N passed, M failed'. With `page` the meanings and remedies of the
 rows are written as `explain` prints them, and nothing is compared.
@@ -191,6 +191,19 @@ def known_answers(program):
         yield f"a text refused {cell}", f"known: {known[cell.replace('`', '')]}", printed(program, "-", data).splitlines()[-2]
 
 
+def named_answers(program, rows):
+    """What is printed of the name of each refusal, in any case, and of a line that a command printed of it."""
+    for number, (name, _meaning, _remedy) in rows.items():
+        for word in (name, name.lower(), name.swapcase()):
+            yield f"the name {word}", printed(program, str(number)), printed(program, word)
+        for rest in ("", " record 3 column 37", " a file"):
+            shown = f"refused {number} {name}{rest}"
+            _first, *words = expected(number, rows).splitlines(keepends=True)
+            yield f"the line {shown}", "".join([shown + "\n", *words]), printed(program, shown)
+    for word in ("BadTyp", "refused 99 BadType", "refused 11", "refused", "refused  11 BadType"):
+        yield f"the word {word}", f"status 1: refused 91 File {word}\n", printed(program, word)
+
+
 def ends_of(text):
     """The first three lines and the last one."""
     lines = text.splitlines(keepends=True)
@@ -225,6 +238,7 @@ def main():
         answers.append((f"a file with {number}", wanted, ends_of(printed(program, "-", data))))
     answers += foreign_answers(program)
     answers += known_answers(program)
+    answers += named_answers(program, rows)
     passed = failed = 0
     for name, good, got in columns_explained(program):
         passed, failed = passed + good, failed + (not good)

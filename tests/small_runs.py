@@ -74,7 +74,7 @@ COMMANDS = [
     ("export", ["export", "desk"], None),
     ("rehearse", ["rehearse", "season", "stations", "script"], None),
     ("explain a number", ["explain", "34"], None),
-    ("explain a data set", ["explain", "overlap"], None),
+    ("explain a data set", ["explain", "twice"], None),
     ("explain a text", ["explain", "cut"], None),
     ("explain a desk file", ["explain", "desk"], None),
 ]
@@ -116,7 +116,7 @@ class Runs:
         self.write({"script": SCRIPT.encode(), "old": b"SSIMDESK of another office\n", "stations": b"ZRH 30MAR25 25OCT25 +0200\nLHR 30MAR25 25OCT25 +0100\n"})
         with open(os.path.join(HERE, "program", "divided.ssim"), "rb") as file:
             lines = file.read().splitlines(keepends=True)
-        self.write({"season": b"".join(lines), "overlap": b"".join([*lines[:3], *lines[2:]]), "cut": TEXTS["later"][:60].encode(),
+        self.write({"season": b"".join(lines), "twice": b"".join([*lines[:3], *lines[2:]]), "cut": TEXTS["later"][:60].encode(),
                     "mail": b"ZCZC ABC1\n" + mailbox(MAIL)})
         for words in desks or ():
             assert self.run(words.split()).status == 0, words

@@ -459,6 +459,7 @@ prints an example of the line, what it means, and what to do:
   refused 12 BadColumn record 3 column 37
   BadColumn: the field that begins there is invalid
   what to do: compare it with the field's row in docs/FORMATS.md
+So does 'explain BadColumn'; of a line that was printed it prints that line.
   ssimdesk explain texts/14-no-such-date.ssm
 prints the refusal of the file and the line, or 'valid' and what it is. A data
 set begins with a digit, a desk file with SSIMDESK, a script with DESKS, a text

@@ -1,9 +1,9 @@
--- What `explain` prints: for a number the line of a refusal that has it; for a file the line of its
--- refusal, or of the other program that made it, and then an explanation.
+-- What `explain` prints: for a number or a name the line of a refusal that has it; for a file the line
+-- of its refusal, or of the other program that made it; and then an explanation.
 use Rattle.std.specs.Prelude.{◌≡◌, ◌⊎◌, ℕ, ◌==◌, Bool, false, true}
-use Rattle.std.specs.Prelude.{List, [], ◌∷◌, ◌++◌, drop, Option, Some, None}
+use Rattle.std.specs.Prelude.{List, [], ◌∷◌, ◌++◌, drop, map, Option, Some, None}
 use Rattle.std.specs.Prelude.{Ok, Err, if◌then◌else◌, codes}
-use Rattle.std.specs.Char.{is_ascii_whitespace}
+use Rattle.std.specs.Char.{is_ascii_whitespace, to_ascii_lowercase}
 use Rattle.std.specs.Fmt.{decimal}
 use Rattle.std.specs.List.{prefix_len}
 use Rattle.std.specs.Str.{bytes_eq}
@@ -27,10 +27,10 @@ use Rattle.ssim_held.specs.Entries.{DeskSeen}
 use Rattle.ssim_held.specs.declared.fault.DeskFault.TheVariants as desk_fault
 use Rattle.ssim_program.specs.Desks.{IsNoDeskFile}
 use Rattle.ssim_program.specs.Files.{Files}
-use Rattle.ssim_program.specs.Foreign.{BeginsWithForeign, foreign_kind}
+use Rattle.ssim_program.specs.Foreign.{BeginsWithForeign, begins_with, foreign_kind}
 use Rattle.ssim_command_line.specs.Line.{Text}
-use Rattle.ssim_program.specs.Made.{HasFile, IsOfBytes, file_limit}
-use Rattle.ssim_program.specs.print.Refusal.{refusal_name, refusal_number, refusal_text}
+use Rattle.ssim_program.specs.Made.{HasFile, IsMissing, IsOfBytes, file_limit}
+use Rattle.ssim_program.specs.print.Refusal.{refusal_head, refusal_name, refusal_number, refusal_text}
 use Rattle.ssim_program.specs.rehearse.Script.{RefusesScript, Script, SpellsScript}
 use Rattle.ssim_program.specs.declared.explain.file_kind.FileKind.{FileKind}
 use Rattle.ssim_program.specs.declared.explain.file_kind.FileKind.TheVariants as kind
@@ -38,12 +38,16 @@ use Rattle.ssim_program.specs.declared.explain.foreign.ForeignKind.{ForeignKind}
 use Rattle.ssim_program.specs.declared.refusal.Refusal.{Refusal}
 use Rattle.ssim_program.specs.declared.refusal.Refusal.TheVariants as refused
 
--- The text is the line of this refusal, and then its name with a meaning, lines on its place, and what
--- to do about it. If no command has a refusal of the number, nothing is said of what follows.
-abbrev pub BeginsWith : Refusal → List ℕ → Type 0
-BeginsWith refusal printed = (rest : List ℕ) × (printed ≡ line (refusal_text refusal) ++ rest)
+-- The text is these bytes, and then the refusal's name with a meaning, lines on its place, and what to
+-- do about it. If no command has a refusal of the number, nothing is said of what follows.
+abbrev pub HasWords : List ℕ → Refusal → List ℕ → Type 0
+HasWords first refusal printed = (rest : List ℕ) × (printed ≡ first ++ rest)
     × (is_refusal (refusal_number refusal) ≡ true
     → (place : List ℕ) × ExplainsRefusal (refusal_name refusal) place rest)
+
+-- the text is the line of this refusal, and then these words on it
+abbrev pub BeginsWith : Refusal → List ℕ → Type 0
+BeginsWith refusal printed = HasWords (line (refusal_text refusal)) refusal printed
 
 -- ---- a number
 
@@ -61,6 +65,21 @@ ExplainsNumber number printed =
     × (example : Refusal) × (refusal_number example ≡ number) × BeginsWith example printed)
     ⊎ ((is_refusal number ≡ false)
     × (printed ≡ line (codes "no refusal has the number " ++ decimal number)))
+
+-- ---- a name
+
+-- The word is the name of the refusal, in any case, and the text explains the refusal. Or the word is
+-- a line that a command printed of such a refusal, and the text is that line with the words on it.
+abbrev pub ExplainsNamed : Text → Refusal → List ℕ → Type 0
+ExplainsNamed word refusal printed =
+    ((map to_ascii_lowercase (refusal_name refusal) ≡ map to_ascii_lowercase word)
+    × BeginsWith refusal printed)
+    ⊎ ((begins_with word (refusal_head refusal) ≡ true) × HasWords (line word) refusal printed)
+
+-- the text explains a refusal that a command may have and that the word names
+abbrev pub ExplainsName : Text → List ℕ → Type 0
+ExplainsName word printed = (refusal : Refusal)
+    × (is_refusal (refusal_number refusal) ≡ true) × ExplainsNamed word refusal printed
 
 -- ---- which file it is
 
@@ -144,8 +163,13 @@ abbrev pub ExplainsFile : Option Files → Text → List ℕ → Type 0
 ExplainsFile files name printed =
     (bytes : List ℕ) × HasFile files name bytes × ExplainsBytes bytes printed
 
--- the lines explain a fault's number or, if the word is no number, a file
+-- the lines explain a file or, if there is no such file within the limit, a refusal by its name
+abbrev pub ExplainsWord : Option Files → Text → List ℕ → Type 0
+ExplainsWord files word printed =
+    ExplainsFile files word printed ⊎ (IsMissing files word × ExplainsName word printed)
+
+-- the lines explain a fault's number or, if the word is no number, a file or a name
 abbrev pub Explains : Option Files → Text → List ℕ → Type 0
 Explains files word printed =
     ((number : ℕ) × (number_in word ≡ Some number) × ExplainsNumber number printed)
-    ⊎ ((number_in word ≡ None) × ExplainsFile files word printed)
+    ⊎ ((number_in word ≡ None) × ExplainsWord files word printed)

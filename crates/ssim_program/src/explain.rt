@@ -1,10 +1,11 @@
-//! The command `explain`: what the refusals of a number mean, or what is invalid in a file.
+//! The command `explain`: what the refusals of a number or a name mean, or what is invalid in a file.
 
 ghost use Rattle.std.specs.Prelude.{◌≡◌, ◌++◌, codes, IfErr, IfOk};
 ghost use Rattle.std.specs.Fmt.{decimal};
 ghost use Rattle.ssim_base.specs.Export.{line};
 ghost use Rattle.ssim_values.specs.Characters.{two_digits_of};
-ghost use Rattle.ssim_program.specs.Explained.{BeginsWith, ExplainsFile, ExplainsNumber, number_in};
+ghost use Rattle.ssim_program.specs.Explained.{BeginsWith, ExplainsNumber, ExplainsWord, HasWords};
+ghost use Rattle.ssim_program.specs.Explained.{number_in};
 ghost use Rattle.ssim_program.specs.Made.{RefusesLoad};
 ghost use Rattle.ssim_program.specs.Answers.{explain};
 ghost use Rattle.ssim_program.specs.internal.Program.{Answers};
@@ -13,19 +14,21 @@ mod example;
 mod file;
 pub(crate) mod file_kind;
 pub(crate) mod foreign;
+mod name;
 
 use crate::data_set::load_file;
 use crate::refusal::Refusal;
 use crate::store::Store;
 use example::example;
 use file::on_bytes;
+use name::on_name;
 use ssim_guide::words_on;
 use ssim_lines::written;
 use ssim_values::Memory;
 use std::alloc::Global;
 use std::io::Write;
 
-/// What the refusals of a number mean, or what is invalid in the file of this name.
+/// What the refusals of a number or a name mean, or what is invalid in the file of this name.
 pub(crate) fn explain<S: Store>(
     alloc: Global,
     word: &str,
@@ -41,15 +44,21 @@ pub(crate) fn explain<S: Store>(
     }
 }
 
-/// What is printed on the file of this name.
+/// What is printed on the file of this name or, if there is none, on the refusal of this name.
 fn on_file<S: Store>(alloc: Global, name: &str, store: &mut S) -> Result<Vec<u8>, Refusal>
-    ensures ok { IfOk result (λ text. ExplainsFile (S.files store.old) name.now text.items) }
+    ensures ok { IfOk result (λ text. ExplainsWord (S.files store.old) name.now text.items) }
     ensures err { IfErr result (RefusesLoad (S.files store.old) name.now) }
     ensures same { S.files store.new ≡ S.files store.old }
     ensures counted { S.failures store.new ≡ S.failures store.old }
 {
-    let bytes = load_file(alloc, name, store)?;
-    Ok(on_bytes(alloc, &bytes)?)
+    match load_file(alloc, name, store) {
+        Ok(bytes) => Ok(on_bytes(alloc, &bytes)?),
+        Err(Refusal::File { name: printed }) => match on_name(alloc, name)? {
+            Some(text) => Ok(text),
+            None => Err(Refusal::File { name: printed }),
+        },
+        Err(refusal) => Err(refusal),
+    }
 }
 
 /// The number that one or two digits spell.
@@ -88,7 +97,20 @@ fn on_number(alloc: Global, number: u8) -> Result<Vec<u8>, Memory>
 fn on_refusal(alloc: Global, refusal: &Refusal, place: &[u8]) -> Result<Vec<u8>, Memory>
     ensures { IfOk result (λ text. BeginsWith refusal.now text.items) }
 {
-    let mut text = refusal.line(alloc)?;
+    let line = refusal.line(alloc)?;
+    with_words(alloc, line, refusal, place)
+}
+
+/// A line, and then the words on a refusal and on its place.
+fn with_words(
+    alloc: Global,
+    line: Vec<u8>,
+    refusal: &Refusal,
+    place: &[u8],
+) -> Result<Vec<u8>, Memory>
+    ensures { IfOk result (λ text. HasWords line.items refusal.now text.items) }
+{
+    let mut text = line;
     let words = words_on(alloc, refusal.number(), refusal.name(), place)?;
     text.extend_from_slice(&words)?;
     Ok(text)
