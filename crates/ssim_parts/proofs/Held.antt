@@ -11,7 +11,8 @@ use Rattle.ssim_parts.specs.declared.fate.Fate.{Fate}
 use Rattle.ssim_parts.specs.declared.fate.Fate.TheVariants.{Absent, Left}
 use Rattle.ssim_parts.specs.declared.fate.LeftReason.TheVariants.{Date}
 use Rattle.ssim_parts.specs.internal.KeptDates.{came_from, is_kept_with, left_if_kept, or_legs}
-use Rattle.ssim_parts.specs.internal.Placed.{MovedPiece, fate_after, first_kept, is_one_kept}
+use Rattle.ssim_parts.specs.internal.Placed.{IsKeptByParts, MovedPiece, fate_after, first_kept}
+use Rattle.ssim_parts.specs.internal.Placed.{has_shift, is_one_kept}
 use Rattle.ssim_parts.specs.internal.Placed.{last_fate, legs_at, legs_kept, legs_put}
 
 -- one piece more
@@ -232,3 +233,69 @@ part_left s by later p n before moved kept is =
     ap (λ (b : Bool). if b then left_if_kept later before else before)
     (is ∙ sym (and_true (came_from (holds p.0) by n))
     ∙ ap (λ (b : Bool). came_from (holds p.0) by n && b) (sym kept) ∙ sym (came-one s by p n))
+
+-- a date that is not kept with the later shift is not left
+pub never_left : (s by later : ℕ) (parts : List MovedPiece) (n : ℕ) (before : Fate)
+    → is_kept_with later before ≡ false → before ≡ fate_after s by later parts n before
+never_left s by later parts n before other =
+    either (came_from (λ k. is_one_kept s (held_on parts k)) by n)
+  where
+    either : (b : Bool) → before ≡ (if b then left_if_kept later before else before)
+    either true = sym (ap (λ (b : Bool). if b then Left Date else before) other)
+    either false = refl
+
+-- a date that is kept with a shift was kept with it before others were left
+pub kept_before : (t s by later : ℕ) (parts : List MovedPiece) (n : ℕ) (before : Fate)
+    → is_kept_with t (fate_after s by later parts n before) ≡ true → is_kept_with t before ≡ true
+kept_before t s by later parts n before h =
+    cases (came_from (λ k. is_one_kept s (held_on parts k)) by n) (is_kept_with later before) h
+  where
+    cases : (came kept : Bool)
+        → is_kept_with t (if came then (if kept then Left Date else before) else before) ≡ true
+        → is_kept_with t before ≡ true
+    cases true true k = absurd cc
+    cases true false k = k
+    cases false kept k = k
+
+or_later : (a b : Bool) → b ≡ true → (a || b) ≡ true
+or_later true b h = refl
+or_later false b h = h
+
+or_between : (a b d : Bool) → (a || d) ≡ true → (a || (b || d)) ≡ true
+or_between true b d h = refl
+or_between false true d h = refl
+or_between false false d h = h
+
+kept_from : (t n : ℕ) (parts : List MovedPiece) (before : Fate)
+    → is_kept_with t (last_fate before (held_on parts n)) ≡ true
+    → (is_kept_with t before || has_shift t parts) ≡ true
+kept_from t n [] before h = ap (λ (b : Bool). b || false) h
+kept_from t n (p ∷ parts) before h =
+    by (holds p.0 n) (kept_from t n parts p.1.fate) (kept_from t n parts before) h
+  where
+    by : (b : Bool)
+        → (is_kept_with t (last_fate p.1.fate (held_on parts n)) ≡ true
+        → (is_kept_with t p.1.fate || has_shift t parts) ≡ true)
+        → (is_kept_with t (last_fate before (held_on parts n)) ≡ true
+        → (is_kept_with t before || has_shift t parts) ≡ true)
+        → is_kept_with t (last_fate before (if b then p.1 ∷ held_on parts n else held_on parts n))
+        ≡ true
+        → (is_kept_with t before || (is_kept_with t p.1.fate || has_shift t parts)) ≡ true
+    by true own others k =
+        or_later (is_kept_with t before) (is_kept_with t p.1.fate || has_shift t parts) (own k)
+    by false own others k =
+        or_between (is_kept_with t before) (is_kept_with t p.1.fate) (has_shift t parts) (others k)
+
+-- by its own fate a date is kept with a shift only if a part is to be
+pub kept_by_parts : (t : ℕ) (parts : List MovedPiece)
+    → IsKeptByParts t parts (λ n. last_fate Absent (held_on parts n))
+kept_by_parts t parts n h = kept_from t n parts Absent h
+
+-- if no part is to be kept with a shift, no date is
+pub none_kept : (t : ℕ) (parts : List MovedPiece) (fates : ℕ → Fate) → IsKeptByParts t parts fates
+    → has_shift t parts ≡ false → (n : ℕ) → is_kept_with t (fates n) ≡ false
+none_kept t parts fates kept none n = by (is_kept_with t (fates n)) refl
+  where
+    by : (b : Bool) → is_kept_with t (fates n) ≡ b → is_kept_with t (fates n) ≡ false
+    by true e = let some = kept n e in absurd cc
+    by false e = e

@@ -3,6 +3,7 @@ pub mod Changing
 pub mod Choosing
 pub mod CountedDates
 pub mod EvenDays
+pub mod FateRuns
 pub mod Headings
 pub mod Held
 pub mod Landing

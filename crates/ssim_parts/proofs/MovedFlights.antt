@@ -64,6 +64,14 @@ kept_inside rows wanted n s (leg ∷ legs) e =
     in
     subst (λ (t : ℕ). 1 ≤ n + t) r.1 (inside n shift none)
 
+-- a date that is kept has the shift of its first departure
+pub kept_shift : (rows : List Row) (wanted : TimeMode) (n s : ℕ) (legs : Legs)
+    → own_fate rows wanted n legs ≡ Kept s → shift_of rows wanted n legs ≡ s
+kept_shift rows wanted n s [] e = absurd cc
+kept_shift rows wanted n s (leg ∷ legs) e =
+    let all = leg ∷ legs in
+    (no_reason (own_reason rows wanted n all) (shift_of rows wanted n all) s e).1
+
 -- legs that are moved are there
 moved_full : (rows : List Row) (wanted : TimeMode) (n s : ℕ) (legs others : Legs)
     → own_fate rows wanted n legs ≡ Kept s

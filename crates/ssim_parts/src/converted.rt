@@ -14,9 +14,11 @@ ghost use Rattle.ssim_parts.specs.FlightFates.{fate_pieces, fates_of};
 ghost use Rattle.ssim_parts.specs.declared.fate.Fate.{Fate};
 ghost use Rattle.ssim_parts.specs.internal.Changes.{ChangesFlight};
 ghost use Rattle.ssim_parts.specs.internal.KeptDates.{or_legs};
-ghost use Rattle.ssim_parts.specs.internal.Placed.{IsFit, fate_after, fate_in, legs_put};
+ghost use Rattle.ssim_parts.specs.internal.Placed.{IsFit, IsKeptByParts, fate_after, fate_in};
+ghost use Rattle.ssim_parts.specs.internal.Placed.{has_shift, legs_put};
 
 use crate::fate::{Fate, LeavesKept};
+use crate::fate_runs::fate_runs;
 use crate::moved_flight::MovedFlight;
 use crate::moved_parts::moved_parts;
 use crate::moved_period::moved_period;
@@ -206,9 +208,7 @@ fn fates_of_parts(alloc: Global, parts: &[(Period, MovedFlight)]) -> Result<Peri
     ensures { IfOk result (λ fates. fates.days ≡ each_day (fate_in parts.now)) }
 {
     let mut fates = Periods::new(alloc);
-    for part in parts {
-        fates.replace(&part.0, &part.1.fate)?;
-    }
+    fates.replace_each(&fate_runs(alloc, parts)?)?;
     leave_later(&mut fates, parts, 2, 1)?;
     leave_later(&mut fates, parts, 2, 0)?;
     leave_later(&mut fates, parts, 1, 0)?;
@@ -216,7 +216,7 @@ fn fates_of_parts(alloc: Global, parts: &[(Period, MovedFlight)]) -> Result<Peri
 }
 
 // Leaves the dates with the shift `later` to whose new dates earlier ones come, which have this
-// shift.
+// shift. Mostly no date has the shift `later`.
 fn leave_later(
     fates: &mut Periods<Fate>,
     parts: &[(Period, MovedFlight)],
@@ -225,14 +225,28 @@ fn leave_later(
 ) -> Result<(), Memory>
     requires order { later < shift }
     requires shift { shift ≤ 2 }
-    ensures { (before : ℕ → Fate) → fates.old.days ≡ each_day before → OnOk result
+    ensures { (before : ℕ → Fate) → IsKeptByParts later parts.now before
+        → fates.old.days ≡ each_day before → OnOk result
         (fates.new.days ≡ each_day (λ n. fate_after shift (shift + 1 - later) later parts.now n
         (before n))) }
 {
+    if !has_shift(parts, later) {
+        return Ok(());
+    }
     for part in parts {
         leave_dates(fates, part, shift, later)?;
     }
     Ok(())
+}
+
+// Whether a part is to be kept with a shift.
+fn has_shift(parts: &[(Period, MovedFlight)], shift: u8) -> bool
+    ensures { result ≡ has_shift shift parts.now }
+{
+    match parts.split_first() {
+        None => false,
+        Some((part, later)) => part.1.fate.is_kept_with(shift) || has_shift(later, shift),
+    }
 }
 
 // Does so for the dates of a part, if it has this shift.

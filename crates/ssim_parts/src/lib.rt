@@ -29,6 +29,7 @@ mod converted;
 mod date_counts;
 mod dated_end;
 mod fate;
+mod fate_runs;
 mod left_lines;
 mod leg_end;
 mod moved_columns;

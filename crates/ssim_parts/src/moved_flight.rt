@@ -35,7 +35,7 @@ impl MovedFlight {
     {
         let fate = own_fate(rows, wanted, day, legs);
         let moved = match fate {
-            Fate::Kept(_) => moved_itinerary(alloc, rows, wanted, day, legs)?,
+            Fate::Kept(shift) => moved_itinerary(alloc, rows, wanted, day, shift, legs)?,
             Fate::Absent | Fate::Left(_) => Itinerary::empty(),
         };
         Ok(MovedFlight { fate, legs: moved })

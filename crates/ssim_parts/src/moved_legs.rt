@@ -28,7 +28,7 @@ pub(crate) fn own_fate(rows: &[StationRow], wanted: TimeMode, day: Day, legs: &[
     if legs.is_empty() {
         return Fate::Absent;
     }
-    match own_reason(rows, wanted, day, legs) {
+    match own_reason(rows, wanted, day, shift, legs) {
         None => Fate::Kept(shift),
         Some(reason) => Fate::Left(reason),
     }
@@ -39,11 +39,13 @@ fn own_reason(
     rows: &[StationRow],
     wanted: TimeMode,
     day: Day,
+    shift: u8,
     legs: &[PlacedLeg],
 ) -> Option<LeftReason>
+    requires shift { shift ≡ shift_of rows.now wanted day legs.now }
+    requires bound { shift ≤ 2 }
     ensures { result ≡ own_reason rows.now wanted day legs.now }
 {
-    let shift = shift_of(rows, wanted, day, legs);
     let unknown = unknown_in(rows, day, legs);
     let outside = outside(day, shift);
     let beyond = beyond_in(rows, wanted, day, shift, legs);
@@ -156,17 +158,18 @@ fn beyond_in(
     }
 }
 
-/// The legs of a flight date in the new time mode.
+/// The legs of a flight date in the new time mode, which moves by this shift.
 pub(crate) fn moved_itinerary(
     alloc: Global,
     rows: &[StationRow],
     wanted: TimeMode,
     day: Day,
+    shift: u8,
     legs: &[PlacedLeg],
 ) -> Result<Itinerary, Memory>
+    requires { shift ≡ shift_of rows.now wanted day legs.now }
     ensures { IfOk result (λ moved. moved ≡ moved_legs rows.now wanted day legs.now) }
 {
-    let shift = shift_of(rows, wanted, day, legs);
     let mut moved = Vec::with_capacity(alloc, legs.len())?;
     for leg in legs {
         moved.push(moved_leg(alloc, rows, wanted, day, shift, leg)?)?;

@@ -1,9 +1,12 @@
 -- Parts of a flight's dates, each with what becomes of them, and their new dates.
-use Rattle.std.specs.Prelude.{◌≡◌, ℕ, ◌+◌, ◌-◌, ◌≤◌, Bool, nat_lt, if◌then◌else◌, List, [], ◌∷◌}
+use Rattle.std.specs.Prelude.{◌≡◌, ℕ, ◌+◌, ◌-◌, ◌≤◌, Bool, true, false, ◌||◌, nat_lt}
+use Rattle.std.specs.Prelude.{if◌then◌else◌, List, [], ◌∷◌}
 use Rattle.std.specs.List.{list_any}
 use Rattle.ssim_values.specs.Period.{DayRange}
+use Rattle.ssim_periods.specs.Calendar.{holds}
 use Rattle.ssim_periods.specs.Pieces.{held_on}
 use Rattle.ssim_base.specs.Timetable.{Above, Legs}
+use Rattle.ssim_parts.specs.FlightFates.{FatePiece}
 use Rattle.ssim_parts.specs.declared.moved_flight.MovedFlight.{MovedFlight}
 use Rattle.ssim_parts.specs.declared.fate.Fate.{Fate}
 use Rattle.ssim_parts.specs.declared.fate.Fate.TheVariants.{Absent, Kept}
@@ -35,6 +38,21 @@ legs_put shift parts m before = or_legs before (legs_at shift parts m)
 abbrev pub last_fate : Fate → List MovedFlight → Fate
 last_fate before [] = before
 last_fate before (moved ∷ later) = last_fate moved.fate later
+
+-- the fate of a date after periods with fates, one after another, gave it theirs
+abbrev pub fate_by : Fate → List FatePiece → ℕ → Fate
+fate_by before [] n = before
+fate_by before (run ∷ later) n = fate_by (if holds run.0 n then run.1 else before) later n
+
+-- whether a part is to be kept with a shift
+abbrev pub has_shift : ℕ → List MovedPiece → Bool
+has_shift shift [] = false
+has_shift shift (part ∷ parts) = is_kept_with shift part.1.fate || has_shift shift parts
+
+-- a date is kept with a shift only if a part is to be
+abbrev pub IsKeptByParts : ℕ → List MovedPiece → (ℕ → Fate) → Type 0
+IsKeptByParts shift parts fates =
+    (n : ℕ) → is_kept_with shift (fates n) ≡ true → has_shift shift parts ≡ true
 
 -- whether one of these is kept with a shift
 abbrev pub is_one_kept : ℕ → List MovedFlight → Bool

@@ -4,8 +4,16 @@ use Rattle.std.proofs.lemmas.List.{take_all, take_more}
 use Rattle.ssim_periods.specs.Days.{each_day}
 use Rattle.ssim_periods.proofs.DayLemmas.{each_day-same}
 use Rattle.ssim_parts.specs.internal.Placed.{MovedPiece, fate_after}
-use Rattle.ssim_parts.proofs.Held.{fate_after-more, fate_after-none}
+use Rattle.ssim_parts.proofs.Held.{fate_after-more, fate_after-none, never_left, none_kept}
 use Rattle.ssim_parts.proofs.converted.leave_later.Goals as goal
+
+pub returns-then-not-has_shift : goal.returns-then-not-has_shift
+returns-then-not-has_shift c = λ before kept is.
+    let s = c.args.shift in let t = c.args.later in
+    let parts = c.args.parts.now in
+    is ∙ each_day-same before (λ n. fate_after s (s + 1 - t) t parts n (before n))
+    (λ n within. never_left s (s + 1 - t) t parts n (before n)
+    (none_kept t parts before kept (sym c.has_shift.ensures ∙ c.if-not-has_shift.true) n))
 
 pub loop-part-init : goal.loop-part-init
 loop-part-init c = λ before is.
@@ -31,7 +39,7 @@ loop-part-preserved c = λ before is.
     (sym more)
 
 pub returns : goal.returns
-returns c = λ before is.
+returns c = λ before kept is.
     let s = c.args.shift in let t = c.args.later in
     c.loop-part.invariant before is
     ∙ ap (λ (ps : List MovedPiece). each_day (λ n. fate_after s (s + 1 - t) t ps n (before n)))

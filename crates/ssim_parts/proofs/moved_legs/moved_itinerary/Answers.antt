@@ -7,7 +7,7 @@ use Rattle.ssim_parts.proofs.moved_legs.moved_itinerary.Goals as goal
 
 pub loop-leg-preserved : goal.loop-leg-preserved
 loop-leg-preserved c =
-    let moved = moved_leg c.args.rows.now c.args.wanted c.args.day c.shift_of-shift.result in
+    let moved = moved_leg c.args.rows.now c.args.wanted c.args.day c.args.shift in
     let legs = c.args.legs.now in
     let i = c.loop-leg.leg-index in
     c.in_ok-push.ensures.items
