@@ -4,6 +4,7 @@ pub mod Choosing
 pub mod CountedDates
 pub mod EvenDays
 pub mod FateRuns
+pub mod FirstReasons
 pub mod Headings
 pub mod Held
 pub mod Landing

@@ -5,6 +5,7 @@ pub mod Even
 pub mod FateOrder
 pub mod KeptDates
 pub mod Moved
+pub mod MovedDates
 pub mod Placed
 pub mod SectionBlocks
 pub mod SectionSteps

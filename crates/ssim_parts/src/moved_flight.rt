@@ -5,10 +5,10 @@ ghost use Rattle.ssim_parts.specs.MovedLegs.{moved_flight, shift_of};
 ghost use Rattle.ssim_parts.specs.internal.Placed.{IsShort};
 
 use crate::fate::Fate;
-use crate::moved_legs::{moved_itinerary, own_fate};
+use crate::moved_legs::{MovedLegs, shift_of};
 use ssim_base::StationRow;
 use ssim_periods::Value;
-use ssim_schedule::{Itinerary, PlacedLeg};
+use ssim_schedule::{FlightDate, Itinerary, PlacedLeg};
 use ssim_values::{Day, Memory, TimeMode};
 use std::alloc::Global;
 
@@ -33,11 +33,13 @@ impl MovedFlight {
         ensures shift { shift_of rows.now wanted day legs.now ≤ 2 }
         ensures short { IfOk result (λ moved. IsShort moved.fate) }
     {
-        let fate = own_fate(rows, wanted, day, legs);
-        let moved = match fate {
-            Fate::Kept(shift) => moved_itinerary(alloc, rows, wanted, day, shift, legs)?,
+        let shift = shift_of(rows, wanted, day, legs);
+        let moved = MovedLegs::of(alloc, rows, wanted, day, shift, legs)?;
+        let fate = moved.own_fate(day, shift);
+        let legs = match fate {
+            Fate::Kept(_) => FlightDate::of(alloc, day, moved.legs)?.itinerary()?,
             Fate::Absent | Fate::Left(_) => Itinerary::empty(),
         };
-        Ok(MovedFlight { fate, legs: moved })
+        Ok(MovedFlight { fate, legs })
     }
 }

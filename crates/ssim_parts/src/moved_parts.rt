@@ -11,7 +11,6 @@ ghost use Rattle.ssim_parts.specs.MovedLegs.{moved_flight};
 ghost use Rattle.ssim_parts.specs.internal.Even.{IsEven, has_variations, have_variations};
 ghost use Rattle.ssim_parts.specs.internal.Placed.{IsFit, IsPart};
 
-use crate::leg_end::LegEnd;
 use crate::moved_flight::MovedFlight;
 use ssim_base::StationRow;
 use ssim_records::LegColumns;
@@ -112,9 +111,7 @@ fn have_variations(legs: &[PlacedLeg]) -> bool
 fn has_variations(columns: &LegColumns) -> bool
     ensures { result ≡ has_variations columns.now }
 {
-    let departure = LegEnd::departure_of(columns).variation.is_some();
-    let arrival = LegEnd::arrival_of(columns).variation.is_some();
-    departure && arrival
+    columns.departure_variation().is_some() && columns.arrival_variation().is_some()
 }
 
 // The first day, from a day number on and up to an end, at which a row begins or a row before ended;
