@@ -1,7 +1,7 @@
 -- Lines with options, computed: which command the words name.
 use Rattle.std.proofs.Common.{true, false, refl, [], ◌∷◌, Some, None, codes}
 use Rattle.clap.proofs.OnLiterals.{clap_on_literals}
-use Rattle.ssim_command_line.specs.Line.{Calendar, ChoiceTexts, Listing, Receive, Select}
+use Rattle.ssim_command_line.specs.Line.{Calendar, ChoiceTexts, Findings, Listing, Receive, Select}
 use Rattle.ssim_command_line.specs.Usage.{Names}
 
 abbrev all_dates : ChoiceTexts
@@ -51,3 +51,11 @@ two_flights : Names (codes "ssimdesk" ∷ codes "calendar" ∷ codes "--from" �
     (codes "fdh.desk") (codes "341" ∷ codes "342" ∷ []))
 unfolding clap_on_literals
 two_flights = record { right = refl; name = codes "calendar"; rows = _; entered = refl; read = refl }
+
+-- `findings --from 20jul27 fdh.desk 341`: a span without an end
+from_a_date : Names (codes "ssimdesk" ∷ codes "findings" ∷ codes "--from" ∷ codes "20jul27"
+    ∷ codes "fdh.desk" ∷ codes "341" ∷ [])
+    (Findings false (record { from = Some (codes "20jul27"); to = None }) (codes "fdh.desk")
+    (codes "341" ∷ []))
+unfolding clap_on_literals
+from_a_date = record { right = refl; name = codes "findings"; rows = _; entered = refl; read = refl }

@@ -12,7 +12,7 @@ use Rattle.ssim_command_line.specs.Line.{one, one_and_several, one_and_texts, on
 use Rattle.ssim_command_line.specs.Line.{one_or_two_values, one_value, three}
 use Rattle.ssim_command_line.specs.Line.{three_values, two, two_and_texts}
 use Rattle.ssim_command_line.specs.Line.{choice_of, choice_words, flag, form_of, is_given, optional}
-use Rattle.ssim_command_line.specs.Line.{several_texts}
+use Rattle.ssim_command_line.specs.Line.{several_texts, span_of, span_words}
 use Rattle.ssim_command_line.specs.Line.{two_values, values_in}
 use Rattle.ssim_command_line.specs.Line.{Board, Calendar, Check, Diff, Explain, Export, Findings, History, Listing}
 use Rattle.ssim_command_line.specs.Line.{Merge, Page, Problems, Publish, Receive, Rehearse, Select, Show, Start}
@@ -228,7 +228,8 @@ receive_row = by (codes "receive") (two_values ++ several_texts ∷ optional (co
     (λ rows. two_and_texts (Receive (first_of (codes "refused") rows)))
 
 abbrev pub texts_row : Command
-texts_row = command (codes "texts") (one_value ++ any_texts ∷ []) (one_and_texts Texts)
+texts_row = by (codes "texts") (one_value ++ any_texts ∷ span_words)
+    (λ rows. one_and_texts (Texts (span_of rows)))
 
 abbrev pub list_row : Command
 list_row = by (codes "list")
@@ -240,8 +241,8 @@ calendar_row = by (codes "calendar") (one_value ++ several_texts ∷ choice_word
     (λ rows. one_and_several (Calendar (choice_of rows)))
 
 abbrev pub findings_row : Command
-findings_row = by (codes "findings") (one_value ++ any_texts ∷ flag (codes "not-acted") ∷ [])
-    (λ rows. one_and_texts (Findings (is_given (codes "not-acted") rows)))
+findings_row = by (codes "findings") (one_value ++ any_texts ∷ flag (codes "not-acted") ∷ span_words)
+    (λ rows. one_and_texts (Findings (is_given (codes "not-acted") rows) (span_of rows)))
 
 abbrev pub select_row : Command
 select_row = by (codes "select") (one_value ++ any_texts ∷ choice_words)
@@ -271,7 +272,7 @@ receive_read = several_reader receive_row.name receive_row.words (λ rows. Recei
 
 pub texts_read_by : IsReader texts_row
 unfolding clap_on_literals
-texts_read_by = texts_reader texts_row.name texts_row.words (λ rows. Texts)
+texts_read_by = texts_reader texts_row.name texts_row.words (λ rows. Texts (span_of rows))
     (λ a. (refl, record { enter = λ t rest. refl; first = λ t u. refl; later = λ x seen t u. refl }))
 
 pub list_read : IsReader list_row
@@ -287,7 +288,7 @@ calendar_read = some_reader calendar_row.name calendar_row.words (λ rows. Calen
 pub findings_read : IsReader findings_row
 unfolding clap_on_literals
 findings_read = texts_reader findings_row.name findings_row.words
-    (λ rows. Findings (is_given (codes "not-acted") rows))
+    (λ rows. Findings (is_given (codes "not-acted") rows) (span_of rows))
     (λ a. (refl, record { enter = λ t rest. refl; first = λ t u. refl; later = λ x seen t u. refl }))
 
 pub select_read : IsReader select_row

@@ -11,6 +11,7 @@ use Rattle.ssim_command_line.specs.declared.command_line.ListForm.{ListForm}
 use Rattle.ssim_command_line.specs.declared.command_line.ModeWord.{ModeWord}
 use Rattle.ssim_command_line.specs.declared.command_line.ModeWord.TheVariants.{Utc, Local}
 use Rattle.ssim_command_line.specs.declared.command_line.Request.{Request}
+use Rattle.ssim_command_line.specs.declared.command_line.SpanWords.{SpanWords}
 use Rattle.ssim_command_line.specs.declared.command_line.Request.TheVariants as request
 
 -- a text as its bytes
@@ -25,6 +26,11 @@ pub record ChoiceTexts : Type 0 where
   pub stations : List Text
   pub aircraft : List Text
 
+-- between which dates of origin a command looks, in words
+pub record SpanTexts : Type 0 where
+  pub from : Option Text
+  pub to : Option Text
+
 -- a command with its values
 pub data Line : Type 0 where
   Check : (dataset : Text) → Line
@@ -35,7 +41,7 @@ pub data Line : Type 0 where
   Receive : (refused : Option Text) (desk out : Text) (texts : List Text) → Line
   Merge : (desk other out : Text) → Line
   Carry : (desk other out : Text) → Line
-  Texts : (desk : Text) (flights : List Text) → Line
+  Texts : (span : SpanTexts) (desk : Text) (flights : List Text) → Line
   Withdraw : (desk out : Text) (references : List Text) → Line
   Show : (file flight : Text) (words : List Text) → Line
   History : (file flight : Text) (words : List Text) → Line
@@ -45,7 +51,7 @@ pub data Line : Type 0 where
   Page : (from : Option Text) (file : Text) → Line
   Diff : (from to : Text) → Line
   Publish : (from to reference out : Text) → Line
-  Findings : (not_acted : Bool) (desk : Text) (flights : List Text) → Line
+  Findings : (not_acted : Bool) (span : SpanTexts) (desk : Text) (flights : List Text) → Line
   Export : (desk : Text) → Line
   Select : (choice : ChoiceTexts) (file : Text) (flights : List Text) → Line
   Convert : (mode : ModeWord) (file out : Text) → Line
@@ -62,6 +68,13 @@ choice_line choice = record {
   aircraft = map (λ aircraft. aircraft.now) choice.aircraft.items;
 }
 
+-- a span as its texts
+abbrev pub span_line : SpanWords → SpanTexts
+span_line span = record {
+  from = option_map (λ date. date.now) span.from;
+  to = option_map (λ date. date.now) span.to;
+}
+
 -- the command line of a request
 abbrev pub line_of : Request → Line
 line_of (request.Check dataset) = Check dataset.now
@@ -73,7 +86,8 @@ line_of (request.Receive refused desk out texts) =
     Receive (option_map (λ r. r.now) refused) desk.now out.now (map (λ t. t.now) texts.items)
 line_of (request.Merge desk other out) = Merge desk.now other.now out.now
 line_of (request.Carry desk other out) = Carry desk.now other.now out.now
-line_of (request.Texts desk flights) = Texts desk.now (map (λ t. t.now) flights.items)
+line_of (request.Texts span desk flights) =
+    Texts (span_line span) desk.now (map (λ t. t.now) flights.items)
 line_of (request.Withdraw desk out references) =
     Withdraw desk.now out.now (map (λ r. r.now) references.items)
 line_of (request.Show file flight words) =
@@ -88,8 +102,8 @@ line_of (request.Calendar choice file flights) =
 line_of (request.Page from file) = Page (option_map (λ f. f.now) from) file.now
 line_of (request.Diff from to) = Diff from.now to.now
 line_of (request.Publish from to reference out) = Publish from.now to.now reference.now out.now
-line_of (request.Findings not_acted desk flights) =
-    Findings not_acted desk.now (map (λ t. t.now) flights.items)
+line_of (request.Findings not_acted span desk flights) =
+    Findings not_acted (span_line span) desk.now (map (λ t. t.now) flights.items)
 line_of (request.Export desk) = Export desk.now
 line_of (request.Select choice file flights) =
     Select (choice_line choice) file.now (map (λ t. t.now) flights.items)
@@ -172,6 +186,14 @@ choice_of rows = record {
   aircraft = unwrap_or (all_of (codes "aircraft") rows) [];
 }
 
+-- which span of dates the options give
+abbrev pub span_of : List Row → SpanTexts
+span_of rows = record { from = first_of (codes "from") rows; to = first_of (codes "to") rows }
+
+-- the options of a span
+abbrev pub span_words : List Rule
+span_words = optional (codes "from") ∷ optional (codes "to") ∷ []
+
 -- the options of a choice
 abbrev pub choice_words : List Rule
 choice_words =
@@ -245,7 +267,11 @@ commands =
     }
     ∷ command (codes "merge") three_values (three Merge)
     ∷ command (codes "carry") three_values (three Carry)
-    ∷ command (codes "texts") (one_value ++ any_texts ∷ []) (one_and_texts Texts)
+    ∷ record {
+      name = codes "texts";
+      words = one_value ++ any_texts ∷ span_words;
+      make = λ rows. one_and_texts (Texts (span_of rows));
+    }
     ∷ command (codes "withdraw") (two_values ++ several_texts ∷ []) (two_and_texts Withdraw)
     ∷ command (codes "show") (two_values ++ several_texts ∷ []) (two_and_texts Show)
     ∷ command (codes "history") (two_values ++ several_texts ∷ []) (two_and_texts History)
@@ -265,8 +291,8 @@ commands =
     ∷ command (codes "page") one_or_two_values (one_or_two Page)
     ∷ record {
       name = codes "findings";
-      words = one_value ++ any_texts ∷ flag (codes "not-acted") ∷ [];
-      make = λ rows. one_and_texts (Findings (is_given (codes "not-acted") rows));
+      words = one_value ++ any_texts ∷ flag (codes "not-acted") ∷ span_words;
+      make = λ rows. one_and_texts (Findings (is_given (codes "not-acted") rows) (span_of rows));
     }
     ∷ command (codes "export") one_value (one Export)
     ∷ record {

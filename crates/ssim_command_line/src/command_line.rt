@@ -4,6 +4,7 @@ ghost use Rattle.std.specs.Prelude.{option_map, unwrap_or};
 ghost use Rattle.clap.specs.Words.{all_of, app_of, found_of, first_of, rows_of};
 ghost use Rattle.ssim_command_line.specs.Line.{Line, Spells, form_of, is_given, line_from, values_in};
 ghost use Rattle.ssim_command_line.specs.Line.{choice_line, choice_of, line_of, mode_of};
+ghost use Rattle.ssim_command_line.specs.Line.{span_line, span_of};
 ghost use Rattle.ssim_command_line.specs.Usage.{Names, line_at};
 ghost use Rattle.ssim_command_line.specs.clauses.Usage.{IsFaultOf};
 
@@ -43,6 +44,15 @@ pub struct ChoiceWords<'a> {
     pub stations: Vec<&'a str>,
     /// Aircraft types, of which a leg has one.
     pub aircraft: Vec<&'a str>,
+}
+
+/// Between which dates of origin a command looks, in the words of the command line.
+#[derive(Clone, Copy, Debug)]
+pub struct SpanWords<'a> {
+    /// The first date of origin.
+    pub from: Option<&'a str>,
+    /// The last date of origin.
+    pub to: Option<&'a str>,
 }
 
 /// A command with its values. Those named `dataset`, `stations`, `desk`, `other`, `file`, `from`,
@@ -93,8 +103,10 @@ pub enum Request<'a> {
         other: &'a str,
         out: &'a str,
     },
-    /// Print the texts of the messages of a desk: of all, or of those that name one of the flights.
+    /// Print the texts of the messages of a desk: of all, or of those that name one of the flights on
+    /// one of the dates.
     Texts {
+        span: SpanWords<'a>,
         desk: &'a str,
         flights: Vec<&'a str>,
     },
@@ -156,10 +168,11 @@ pub enum Request<'a> {
         reference: &'a str,
         out: &'a str,
     },
-    /// Print what the sub-messages of a desk found: of all flights, or of these; and all of them, or
-    /// those that did not act on a date.
+    /// Print what the sub-messages of a desk found on these dates: of all flights, or of these; and
+    /// all of them, or those that did not act on a date.
     Findings {
         not_acted: bool,
+        span: SpanWords<'a>,
         desk: &'a str,
         flights: Vec<&'a str>,
     },
@@ -212,7 +225,7 @@ pub enum LineFault {
 }
 
 /// The request with the values in its first fields, the texts after them in the next (one or more, if
-/// a `+` says so), and what the options say in the last; after `=` that takes memory. The first of two
+/// a `+` says so), and what the options say in the last ones; after `=` that takes memory. The first of two
 /// values may be missing, if a `?` says so. After a `:` is what reads the first value. Nothing, if the
 /// values are too few or too many, or that reads nothing.
 macro_rules! request {
@@ -276,12 +289,12 @@ macro_rules! request {
         }
     };
     (($alloc:expr, $inner:expr, $values:expr)
-        $name:ident($($field:ident),+; $texts:ident $(; $options:ident: $of:ident)?)) => {
+        $name:ident($($field:ident),+; $texts:ident $(; $options:ident: $of:ident)*)) => {
         match $values {
             [$($field),+, $texts @ ..] => Ok(Some(Request::$name {
                 $($field: *$field,)+
                 $texts: $texts.to_vec($alloc)?,
-                $($options: $of($inner),)?
+                $($options: $of($inner),)*
             })),
             _ => Ok(None),
         }
@@ -368,6 +381,16 @@ fn not_acted_of(inner: &ArgMatches<'_>) -> bool
     ensures { result ≡ is_given (codes "not-acted") (rows_of (found_of inner.now)) }
 {
     is_given(inner, "not-acted")
+}
+
+/// The span of dates that the options give.
+fn span_of<'a>(inner: &ArgMatches<'a>) -> SpanWords<'a>
+    ensures { span_line result ≡ span_of (rows_of (found_of inner.now)) }
+{
+    SpanWords {
+        from: option_at(inner, "from"),
+        to: option_at(inner, "to"),
+    }
 }
 
 /// The time mode of a word.

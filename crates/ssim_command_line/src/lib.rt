@@ -11,4 +11,4 @@ mod command_name;
 mod program;
 mod table;
 
-pub use command_line::{ChoiceWords, LineFault, ListForm, ModeWord, Request, parse};
+pub use command_line::{ChoiceWords, LineFault, ListForm, ModeWord, Request, SpanWords, parse};

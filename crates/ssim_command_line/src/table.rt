@@ -175,8 +175,9 @@ Exit status: 0, also if messages are left; 1 if a desk file is refused, airline
 or time mode differ (61), DESK holds another message under the reference of one
 that means the same (60), a file cannot be read or written, another command
 holds OUT (92), or OUT is a file of another kind (93)."
-        "texts" [First("DESK"), Any("FLIGHT")] => Texts(desk; flights)
-        "Print the messages of a desk as texts: all, or those of flights"
+        "texts" [First("DESK"), Any("FLIGHT"), Valued("from", "DATE"), Valued("to", "DATE")]
+            => Texts(desk; flights; span: span_of)
+        "Print messages of a desk as texts: all, or of some flights or dates"
         "\
 The texts are canonical, in order of reference. 'carry' brings messages to a
 desk of another data set: there a text without a year may mean other dates.
@@ -189,8 +190,11 @@ prints each text, with an empty line between two:
   CNL
   Z7103
   24MAY27 24MAY27 1
-Exit status: 0, also if no message is printed; 1 if the desk file is refused,
-FLIGHT is no designator (6), or the airline is another one (41)."
+With --from or --to it prints those of which a sub-message has one of these
+dates; with flights, a sub-message of one of the flights.
+Exit status: 0, also if no message is printed; 1 if the desk file is refused, a
+word is no flight (6) or date (1), the airline is another one (41), or --from is
+after --to (43)."
         "withdraw" [First("DESK"), Second("OUT"), Several("REFERENCE")]
             => Withdraw(desk, out; references+)
         "Write a desk file as if some of its messages had never come"
@@ -353,8 +357,9 @@ writes the page of 'friday.desk' with what changed from 'monday.desk', as in
 'diff'.
 Exit status: 0; 1 if a file is refused or cannot be read, or of two files the
 airline (41) or the time mode (40) of TO is another one."
-        "findings" [First("DESK"), Any("FLIGHT"), Flag("not-acted")]
-            => Findings(desk; flights; not_acted: not_acted_of)
+        "findings" [First("DESK"), Any("FLIGHT"), Flag("not-acted"), Valued("from", "DATE"),
+            Valued("to", "DATE")]
+            => Findings(desk; flights; not_acted: not_acted_of; span: span_of)
         "Print on how many dates each message acted, and why not on others"
         "\
 Example:
@@ -363,9 +368,11 @@ prints the reference, the number of the sub-message, its action and flight, and
 the dates:
   SSM 15MAR27 00001 001 1 CNL Z7103 acted 1 absent 0 present 0 leg 0 station 0
 With --not-acted it prints only the sub-messages that did not act on a date of
-their period, or have none.
-Exit status: 0; 1 if the desk file is refused or cannot be read, or a word is no
-flight (6)."
+their period, or have none. With --from or --to it counts only these dates, and
+leaves out a sub-message without one.
+Exit status: 0; 1 if the desk file is refused or cannot be read, a word is no
+flight (6) or date (1), the airline is another one (41), or --from is after --to
+(43)."
         "export" [First("DESK")] => Export(desk)
         "Print the timetable of a desk as a data set, in canonical form"
         "\
@@ -537,6 +544,7 @@ const WORDS: &[(Told, &str)] = &[
         "Print CSV: a row of names, then a row for each leg",
     ),
     (Id("dates"), "Print each date by itself, and no periods"),
+    (Id("not-acted"), "Print only what did not act on a date"),
     (Id("from"), "The first date of origin"),
     (Id("to"), "The last date of origin"),
     (Id("station"), "A station of a leg, such as ZRH"),

@@ -53,7 +53,7 @@ use Rattle.ssim_program.specs.Exports.{HasNoExport, RefusesExport, export_in}
 use Rattle.ssim_program.specs.Files.{Files}
 use Rattle.ssim_program.specs.Made.{AreLinesOn, IsExport, data_set_in, problem_line, problem_lines}
 use Rattle.ssim_program.specs.Made.{problems_in, summary_lines}
-use Rattle.ssim_program.specs.Messages.{IsOf, flights_in, message_texts, messages_on}
+use Rattle.ssim_program.specs.Messages.{IsOf, message_texts, messages_on}
 use Rattle.ssim_program.specs.Offices.{IsSameFile}
 use Rattle.ssim_program.specs.Timetables.{HasCarrier, carrier_of, shown_in, timetable_in}
 use Rattle.ssim_program.specs.Withdrawing.{Withdraws}

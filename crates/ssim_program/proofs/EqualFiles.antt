@@ -56,7 +56,7 @@ use Rattle.ssim_program.specs.Exports.{HasNoExport, RefusesExport, export_in}
 use Rattle.ssim_program.specs.Files.{Files}
 use Rattle.ssim_program.specs.Made.{AreLinesOn, IsExport, data_set_in, problem_line, problem_lines}
 use Rattle.ssim_program.specs.Made.{problems_in, summary_lines}
-use Rattle.ssim_program.specs.Messages.{IsOf, but_last, flights_in, flights_on, last_of, message_texts}
+use Rattle.ssim_program.specs.Messages.{IsOf, but_last, flights_on, last_of, message_texts}
 use Rattle.ssim_program.specs.Messages.{messages_on}
 use Rattle.ssim_program.specs.Offices.{IsSameFile}
 use Rattle.ssim_program.specs.Timetables.{HasCarrier, carrier_of, shown_in, timetable_in}
@@ -78,40 +78,6 @@ use Rattle.ssim_program.proofs.SameReading.{shown_alike, timetable_alike}
 use Rattle.ssim_program.proofs.Withdrawing.{printed_once}
 
 -- ---- words
-
--- flights of one airline, from the flights that words name on
-abbrev of_airline : List ℕ → List Designator → Answer (List Designator)
-of_airline airline flights = do
-  here ← Require (All (IsOf airline) flights) other_airline
-  Gives flights
-
-abbrev named_flights : List ℕ → List Text → Unit {0} → Answer (List Designator)
-named_flights airline words room =
-    OneOr (NameEach airline words) (refused.Value value_fault.BadDesignator) >>= of_airline airline
-
-of_airline_alike : (airline : List ℕ) (flights others : List Designator) → flights ≡ others
-    → AreAlike Equal (of_airline airline flights) (of_airline airline others)
-of_airline_alike airline flights others same =
-    subst (λ (ds : List Designator). AreAlike Equal (of_airline airline flights)
-    (of_airline airline ds)) same
-    (then_alike Nothing Equal (Require (All (IsOf airline) flights) other_airline)
-    (Require (All (IsOf airline) flights) other_airline) (λ here. Gives flights)
-    (λ here. Gives flights)
-    (require_alike (All (IsOf airline) flights) other_airline)
-    (λ x y both. gives_alike flights flights refl))
-
-flights_alike : (airline other : List ℕ) (words : List Text) → airline ≡ other
-    → AreAlike Equal (flights_in airline words) (flights_in other words)
-flights_alike airline other words same =
-    subst (λ (a : List ℕ). AreAlike Equal (flights_in airline words) (flights_in a words)) same
-    (then_alike Equal Equal (Gives (tt {0})) (Gives (tt {0})) (named_flights airline words)
-    (named_flights airline words) (gives_alike (tt {0}) (tt {0}) refl)
-    (λ x y both. then_alike Equal Equal
-    (OneOr (NameEach airline words) (refused.Value value_fault.BadDesignator))
-    (OneOr (NameEach airline words) (refused.Value value_fault.BadDesignator))
-    (of_airline airline) (of_airline airline)
-    (one_or_alike (NameEach airline words) (refused.Value value_fault.BadDesignator)
-    (name_once airline words)) (of_airline_alike airline)))
 
 -- flights of one airline and a date, from the flights on
 abbrev on_day : List ℕ → List Designator → ℕ → Answer (List FlightNumber × ℕ)
@@ -286,11 +252,6 @@ exports_alike base other days those same same_days =
 abbrev pub seen : BaseSeen → List Entry → DeskSeen
 seen base held = record { base = base; held = held; applied = 0 }
 
-abbrev texts_of : List Text → DeskSeen → Answer (List ℕ)
-texts_of words desk = do
-  flights ← flights_in (airline_of desk.base.records) words
-  Gives (message_texts (messages_on flights desk.held))
-
 -- the lines that are made of flights on a date
 abbrev dated : (DeskSeen → List FlightNumber × ℕ → List ℕ) → Text → List Text → DeskSeen
     → Answer (List ℕ)
@@ -308,15 +269,6 @@ lines_of_history desk named =
     blocks (map (history_on (airline_of desk.base.records) (itinerary desk.base.records)
     (steps_on desk) named.1) (in_order named.0))
 
-abbrev lines_found : Bool → List Designator → BaseSeen → List Entry → List ℕ
-lines_found not_acted flights base held =
-    findings_lines not_acted flights (entry_lines held (found_by base held))
-
-abbrev findings_of : Bool → List Text → DeskSeen → Answer (List ℕ)
-findings_of not_acted words desk =
-    flights_in (airline_of desk.base.records) words
-    >>= (λ flights. Gives (lines_found not_acted flights desk.base desk.held))
-
 abbrev export_of : DeskSeen → Answer (List Act)
 export_of desk = prints (export_in desk.base.records (days_of_desk desk))
 
@@ -325,43 +277,6 @@ pub airlines_same : (desk other : DeskSeen) → SameDesk desk other
 airlines_same desk other one = ap (λ (b : BaseSeen). airline_of b.records) one.0
 
 module _ (no_two : NoTwoDesks) where
-  pub texts_alike : (words : List Text) → DoesTheSame (λ file. Texts file words)
-  texts_alike words files others name another same =
-      let mine = desk_in (Some files) name in
-      let theirs = desk_in (Some others) another in
-      prints_alike (mine >>= texts_of words) (theirs >>= texts_of words)
-      (then_alike SameDesk Equal mine theirs (texts_of words) (texts_of words)
-      (desk_alike files others name another same no_two)
-      (λ desk other one. then_alike Equal Equal (flights_in (airline_of desk.base.records) words)
-      (flights_in (airline_of other.base.records) words)
-      (λ flights. Gives (message_texts (messages_on flights desk.held)))
-      (λ flights. Gives (message_texts (messages_on flights other.held)))
-      (flights_alike (airline_of desk.base.records) (airline_of other.base.records) words
-      (airlines_same desk other one))
-      (λ flights those both. gives_alike (message_texts (messages_on flights desk.held))
-      (message_texts (messages_on those other.held))
-      (λ i. message_texts (messages_on (both i) (one.1 i))))))
-
-  pub findings_alike : (not_acted : Bool) (words : List Text)
-      → DoesTheSame (λ file. Findings not_acted file words)
-  findings_alike not_acted words files others name another same =
-      let mine = desk_in (Some files) name in
-      let theirs = desk_in (Some others) another in
-      let lines = lines_found not_acted in
-      let found = findings_of not_acted words in
-      prints_alike (mine >>= found) (theirs >>= found)
-      (then_alike SameDesk Equal mine theirs found found
-      (desk_alike files others name another same no_two)
-      (λ desk other one. then_alike Equal Equal (flights_in (airline_of desk.base.records) words)
-      (flights_in (airline_of other.base.records) words)
-      (λ flights. Gives (lines flights desk.base desk.held))
-      (λ flights. Gives (lines flights other.base other.held))
-      (flights_alike (airline_of desk.base.records) (airline_of other.base.records) words
-      (airlines_same desk other one))
-      (λ flights those both. gives_alike (lines flights desk.base desk.held)
-      (lines those other.base other.held)
-      (λ i. lines (both i) (one.0 i) (one.1 i)))))
-
   pub export_alike : DoesTheSame Export
   export_alike files others name another same =
       let days : DeskSeen → FlightNumber → Days = days_of_desk in

@@ -156,7 +156,7 @@ selected_of words flights desk =
     choice_in (airline_of desk.base.records) words flights >>= part_of desk
 
 -- the lines that are made of the chosen part of a desk
-abbrev lines_of : (DeskSeen → Choosing → List ℕ) → ChoiceTexts → List Text → DeskSeen
+abbrev pub lines_of : (DeskSeen → Choosing → List ℕ) → ChoiceTexts → List Text → DeskSeen
     → Answer (List ℕ)
 lines_of lines words flights desk = do
   choice ← choice_in (airline_of desk.base.records) words flights
@@ -171,7 +171,7 @@ calendar_of desk choice = calendars (airline_of desk.base.records)
     (chosen_days choice (days_of_desk desk)) (in_order choice.flights)
 
 -- they are alike, if equal desks and equal choices have the same
-lines_alike : (lines : DeskSeen → Choosing → List ℕ)
+pub lines_alike : (lines : DeskSeen → Choosing → List ℕ)
     → ((desk other : DeskSeen) (choice that : Choosing) → SameDesk desk other → choice ≡ that
     → lines desk choice ≡ lines other that)
     → (words : ChoiceTexts) (flights : List Text) (desk other : DeskSeen) → SameDesk desk other

@@ -199,7 +199,7 @@ module _ (old new : Files) (acts done later : List Act) (split : acts ≡ done +
       keeps_one _ old new acts done later split left _ (WithdrawKept desk out references)
       (ap kept_by are) refl
       (λ is. (acts, (tt, may, (one, read, (after, withdraws, (rising, are)))), ap is_whole are, is))
-  of_line (line.Texts desk flights) (bytes, is, are) =
+  of_line (line.Texts span desk flights) (bytes, is, are) =
       looks _ old new acts done later split left (ap kept_by are)
   of_line (line.Show desk flight words) (bytes, is, are) =
       looks _ old new acts done later split left (ap kept_by are)
@@ -231,7 +231,7 @@ module _ (old new : Files) (acts done later : List Act) (split : acts ≡ done +
     is = inl (kept_by done, refl);
     leaves = left;
   }
-  of_line (line.Findings not_acted desk flights) (bytes, is, are) =
+  of_line (line.Findings not_acted span desk flights) (bytes, is, are) =
       looks _ old new acts done later split left (ap kept_by are)
   of_line (line.Export desk) (one, read, (bytes, is, are)) =
       looks _ old new acts done later split left (ap kept_by are)

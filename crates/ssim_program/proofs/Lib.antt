@@ -42,6 +42,8 @@ pub mod EqualParts
 pub mod CarriedFiles
 pub mod ChoiceSteps
 pub mod ChosenDates
+pub mod SpanParts
+pub mod EqualSpans
 pub mod BlockLines
 pub mod FlightAlone
 pub mod WordsOn

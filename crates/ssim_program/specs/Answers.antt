@@ -28,7 +28,7 @@ use Rattle.ssim_page.specs.Page.{whole_page}
 use Rattle.ssim_page.specs.declared.heading.PageHeading.{PageHeading}
 use Rattle.ssim_command_line.specs.Line.{Line, Text, Check, Problems, Tidy, Start, Take, Merge}
 use Rattle.ssim_command_line.specs.Line.{Withdraw}
-use Rattle.ssim_command_line.specs.Line.{Carry, ChoiceTexts}
+use Rattle.ssim_command_line.specs.Line.{Carry, ChoiceTexts, SpanTexts}
 use Rattle.ssim_command_line.specs.Line.{Receive, Texts, Show, History, Calendar, Findings, Export}
 use Rattle.ssim_command_line.specs.Line.{Rehearse, Explain, Page, Board, Diff, Publish, Listing}
 use Rattle.ssim_command_line.specs.Line.{Convert, Select, Split}
@@ -45,9 +45,10 @@ use Rattle.ssim_program.specs.Explained.{Explains}
 use Rattle.ssim_program.specs.Files.{Files}
 use Rattle.ssim_program.specs.Made.{AreLinesOn, base_in, data_set_in, problem_lines, problems_in}
 use Rattle.ssim_program.specs.Made.{RefusesLoad}
-use Rattle.ssim_program.specs.Messages.{flights_in, flights_on, message_texts, messages_on}
+use Rattle.ssim_program.specs.Messages.{flights_on, message_texts, messages_on}
 use Rattle.ssim_program.specs.Places.{place_in}
 use Rattle.ssim_program.specs.Splitting.{split}
+use Rattle.ssim_program.specs.Spans.{dates_alone, has_end, lines_found}
 use Rattle.ssim_program.specs.Receiving.{places_in, receipt_lines, received, received_files}
 use Rattle.ssim_program.specs.Timetables.{carrier_of, shown_in, timetable_in}
 use Rattle.ssim_program.specs.Withdrawing.{withdrawn}
@@ -146,12 +147,13 @@ withdraw files file out references = do
 
 -- ---- what a desk holds
 
--- the texts of its messages; with flights, of those that name one of them
-abbrev pub texts : Option Files → Text → List Text → Answer (List ℕ)
-texts files file words = do
+-- the texts of its messages; with flights or a span of dates, of those of which one sub-message is of
+-- such a flight and has such a date
+abbrev pub texts : Option Files → SpanTexts → Text → List Text → Answer (List ℕ)
+texts files span file words = do
   desk ← desk_in files file
-  flights ← flights_in (airline_of desk.base.records) words
-  Gives (message_texts (messages_on flights desk.held))
+  choice ← choice_in (airline_of desk.base.records) (dates_alone span) words
+  Gives (message_texts (messages_on (has_end span) choice desk.held))
 
 -- flights on a date, by number and then by suffix, each once, with an empty line between two
 abbrev pub show : Option Files → Text → Text → List Text → Answer (List ℕ)
@@ -169,13 +171,13 @@ history files file flight words = do
   Gives (blocks (map (history_on (airline_of desk.base.records) (itinerary desk.base.records)
       (steps_on desk) named.1) (in_order named.0)))
 
--- what each sub-message found: of all flights, or of those that are named; all, or those alone that
--- did not act on a date
-abbrev pub findings : Option Files → Bool → Text → List Text → Answer (List ℕ)
-findings files not_acted file words = do
+-- what each sub-message found on its dates, or on those of a span: of all flights, or of those that are
+-- named; all, or those alone that did not act on a date
+abbrev pub findings : Option Files → Bool → SpanTexts → Text → List Text → Answer (List ℕ)
+findings files not_acted span file words = do
   desk ← desk_in files file
-  flights ← flights_in (airline_of desk.base.records) words
-  Gives (findings_lines not_acted flights (finding_lines desk))
+  choice ← choice_in (airline_of desk.base.records) (dates_alone span) words
+  Gives (findings_lines not_acted (has_end span) choice (lines_found (has_end span) choice desk))
 
 -- the canonical export of what a desk has
 abbrev pub export : Option Files → Text → Answer (List Act)
@@ -334,7 +336,7 @@ answers (Receive refused file out names) files = receive files refused file out 
 answers (Merge file other out) files = merge files file other out
 answers (Carry file other out) files = carry files file other out
 answers (Withdraw file out references) files = withdraw files file out references
-answers (Texts file flights) files = prints (texts files file flights)
+answers (Texts span file flights) files = prints (texts files span file flights)
 answers (Show file flight words) files = prints (show files file flight words)
 answers (History file flight words) files = prints (history files file flight words)
 answers (Board file station date) files = prints (board files file station date)
@@ -343,7 +345,8 @@ answers (Calendar words file flights) files = prints (calendar files words file 
 answers (Page from file) files = prints (page files from file)
 answers (Diff from to) files = prints (diff files from to)
 answers (Publish from to reference out) files = publish files from to reference out
-answers (Findings not_acted file flights) files = prints (findings files not_acted file flights)
+answers (Findings not_acted span file flights) files =
+    prints (findings files not_acted span file flights)
 answers (Export file) files = export files file
 answers (Select choice file flights) files = select files choice file flights
 answers (Convert mode file out) files = convert files mode file out

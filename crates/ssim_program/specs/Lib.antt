@@ -9,6 +9,7 @@ pub mod Desks
 pub mod Messages
 pub mod FirstProblem
 pub mod Choices
+pub mod Spans
 pub mod Withdrawing
 pub mod Carrying
 pub mod Receiving

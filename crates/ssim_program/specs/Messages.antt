@@ -1,17 +1,20 @@
 -- The messages of a desk that a command prints, and the flights by which they are chosen.
-use Rattle.std.specs.Prelude.{◌≡◌, ℕ, Bool, true, List, [], ◌∷◌, All, filter, map}
+use Rattle.std.specs.Prelude.{◌≡◌, ℕ, Bool, false, not, ◌&&◌, ◌||◌, List, [], ◌∷◌, All, filter, map}
 use Rattle.ssim_values.specs.Flight.{FlightNumber}
 use Rattle.std.specs.List.{AllByRecursion, join_by, list_any}
 use Rattle.ssim_values.specs.declared.designator.Designator.{Designator}
 use Rattle.ssim_values.specs.declared.fault.Fault.TheVariants as value_fault
 use Rattle.ssim_text.specs.Canonical.{canonical}
-use Rattle.ssim_base.specs.Timetable.{same_flight}
 use Rattle.ssim_text.specs.Message.{MessageValue}
+use Rattle.ssim_periods.specs.Calendar.{holds}
+use Rattle.ssim_periods.specs.CommonDays.{have_common_date}
+use Rattle.ssim_base.specs.declared.sub_message.ResolvedSub.{ResolvedSub}
 use Rattle.ssim_mailbox.specs.Texts.{texts_in}
 use Rattle.ssim_words.specs.Date.{typed_day}
 use Rattle.ssim_words.specs.Flight.{NameEach}
 use Rattle.ssim_held.specs.Entries.{Entry}
 use Rattle.ssim_outbox.specs.MailFile.{IsMail, mail_texts}
+use Rattle.ssim_parts.specs.Chosen.{Choosing, chooses_date, chooses_flight}
 use Rattle.ssim_command_line.specs.Line.{Text}
 use Rattle.ssim_program.specs.Answer.{Answer, Gives, OneOr, OrElse, Require, ◌>>=◌}
 use Rattle.ssim_program.specs.Desks.{other_airline}
@@ -22,15 +25,6 @@ use Rattle.ssim_program.specs.declared.refusal.Refusal.TheVariants as refused
 -- the flight is of the airline
 abbrev pub IsOf : List ℕ → Designator → Type 0
 IsOf airline flight = flight.airline ≡ airline
-
--- The flights of the airline that the words name. A word that names no flight is refused before a
--- flight of another airline.
-abbrev pub flights_in : List ℕ → List Text → Answer (List Designator)
-flights_in airline words = do
-  room ← Gives (tt {0})
-  flights ← OneOr (NameEach airline words) (refused.Value value_fault.BadDesignator)
-  here ← Require (All (IsOf airline) flights) other_airline
-  Gives flights
 
 -- of a first word and those after it, all but the last; the last
 abbrev pub but_last : Text → List Text → List Text
@@ -53,21 +47,27 @@ flights_on airline word words = do
   here ← Require (All (IsOf airline) flights) other_airline
   Gives (map (λ d. d.flight) flights, day)
 
--- ---- the messages that name one of them
+-- ---- the messages that are chosen by flights and a span of dates
 
--- whether a sub-message of the message names one of the flights
-abbrev pub names_one : List Designator → Entry → Bool
-names_one flights e =
-    list_any (λ sub. list_any (λ d. same_flight sub.flight d.flight) flights) e.dates
+-- whether a sub-message is of a chosen flight and, if a span is given, has a chosen date
+abbrev pub is_sub_chosen : Bool → Choosing → ResolvedSub → Bool
+is_sub_chosen spanned choice sub =
+    chooses_flight choice sub.flight
+    && (not spanned || have_common_date (holds sub.period) (chooses_date choice))
 
--- whether no flight is named, or the message names one of them
-abbrev pub is_chosen : List Designator → Entry → Bool
-is_chosen [] e = true
-is_chosen (flight ∷ flights) e = names_one (flight ∷ flights) e
+-- whether neither flights nor a span are given
+abbrev pub is_all : Bool → List FlightNumber → Bool
+is_all spanned [] = not spanned
+is_all spanned (flight ∷ flights) = false
+
+-- whether neither is given, or one sub-message of the message is chosen by both
+abbrev pub is_chosen : Bool → Choosing → Entry → Bool
+is_chosen spanned choice e =
+    is_all spanned choice.flights || list_any (is_sub_chosen spanned choice) e.dates
 
 -- the chosen ones of the messages, in their order
-abbrev pub messages_on : List Designator → List Entry → List Entry
-messages_on flights entries = filter (is_chosen flights) entries
+abbrev pub messages_on : Bool → Choosing → List Entry → List Entry
+messages_on spanned choice entries = filter (is_chosen spanned choice) entries
 
 -- the canonical texts of the messages, an empty line between two
 abbrev pub message_texts : List Entry → List ℕ

@@ -12,4 +12,5 @@ pub mod Carry
 pub mod Choices
 pub mod SomeFlights
 pub mod Splitting
+pub mod Spans
 pub mod Diff

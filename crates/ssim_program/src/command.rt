@@ -27,6 +27,7 @@ pub(crate) mod publish;
 pub(crate) mod receive;
 pub(crate) mod select;
 pub(crate) mod show;
+pub(crate) mod span;
 pub(crate) mod split;
 pub(crate) mod start;
 pub(crate) mod take;
@@ -96,7 +97,11 @@ pub(crate) fn make<'r, S: Store>(
         Request::Export { desk } => export::export(alloc, desk, store),
         Request::Check { dataset } => lines(check::check(alloc, dataset, store)),
         Request::Problems { dataset } => lines(problems::problems(alloc, dataset, store)),
-        Request::Texts { desk, flights } => lines(texts::texts(alloc, desk, flights, store)),
+        Request::Texts {
+            span,
+            desk,
+            flights,
+        } => lines(texts::texts(alloc, *span, desk, flights, store)),
         Request::Show {
             file,
             flight,
@@ -127,9 +132,10 @@ pub(crate) fn make<'r, S: Store>(
         Request::Diff { from, to } => lines(diff::diff(alloc, from, to, store)),
         Request::Findings {
             not_acted,
+            span,
             desk,
             flights,
-        } => lines(findings::findings(alloc, *not_acted, desk, flights, store)),
+        } => lines(findings::findings(alloc, *not_acted, *span, desk, flights, store)),
         Request::Select {
             choice,
             file,

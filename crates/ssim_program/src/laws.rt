@@ -2,7 +2,7 @@
 
 ghost use Rattle.std.specs.Prelude.{Bool, List, None, Some};
 ghost use Rattle.ssim_command_line.specs.Line.{Board, Calendar, Carry, Check, ChoiceTexts, Diff};
-ghost use Rattle.ssim_command_line.specs.Line.{Convert, Export, Findings, Select};
+ghost use Rattle.ssim_command_line.specs.Line.{Convert, Export, Findings, Select, SpanTexts};
 ghost use Rattle.ssim_command_line.specs.Line.{History, Listing, Page, Problems, Show, Text, Texts};
 ghost use Rattle.ssim_command_line.specs.Line.{Tidy, Withdraw};
 ghost use Rattle.ssim_command_line.specs.declared.command_line.ListForm.{ListForm};
@@ -80,12 +80,13 @@ pub fn nothing_taken_is_lost()
 /// prints the same: what became of each reference. So does `carry` of two pairs of equal desk files:
 /// what became of each message.
 pub fn equal_desk_files_do_the_same()
-    ensures texts { (flights : List Text) → DoesTheSame (λ file. Texts file flights) }
+    ensures texts { (span : SpanTexts) (flights : List Text)
+        → DoesTheSame (λ file. Texts span file flights) }
     ensures withdraw { (out : Text) (references : List Text)
         → PrintsTheSame (λ file. Withdraw file out references) }
     ensures carry { (out : Text) → PrintsTheSameOfPairs (λ desk other. Carry desk other out) }
-    ensures findings { (not_acted : Bool) (flights : List Text)
-        → DoesTheSame (λ file. Findings not_acted file flights) }
+    ensures findings { (not_acted : Bool) (span : SpanTexts) (flights : List Text)
+        → DoesTheSame (λ file. Findings not_acted span file flights) }
     ensures export { DoesTheSame Export }
 {
     one_reference();

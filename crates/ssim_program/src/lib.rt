@@ -23,6 +23,7 @@
 //! none of another kind. Help goes to `out`, and what is wrong with the words to `err`.
 #![tactic(auto)]
 
+mod chosen_findings;
 mod command;
 mod content;
 mod content_kind;

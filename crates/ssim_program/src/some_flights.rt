@@ -3,7 +3,9 @@
 ghost use Rattle.std.specs.Prelude.{◌≡◌, true, IfOk, OnOk};
 ghost use Rattle.std.specs.List.{list_any};
 ghost use Rattle.ssim_values.specs.Flight.{FlightNumber, IsFlight};
+ghost use Rattle.ssim_periods.specs.Days.{each_day};
 ghost use Rattle.ssim_base.specs.Timetable.{is_among};
+ghost use Rattle.ssim_schedule.specs.Acts.{finding_of};
 ghost use Rattle.ssim_schedule.specs.clauses.Schedule.{days_in};
 ghost use Rattle.ssim_desk.specs.Desk.{days_of_desk};
 ghost use Rattle.ssim_desk.specs.Meaning.{Timetable, after_entries, after_entry, after_one};
@@ -11,7 +13,7 @@ ghost use Rattle.ssim_program.specs.internal.SomeFlights.{AgreeAt, Shows};
 
 use ssim_base::{ResolvedSub, StationRow};
 use ssim_desk::{Held, Holdings};
-use ssim_schedule::Schedule;
+use ssim_schedule::{Finding, Schedule};
 use ssim_text::Sub;
 use ssim_values::{Flight, Memory};
 
@@ -56,21 +58,22 @@ fn act(rows: &[StationRow], schedule: &mut Schedule, held: &Held) -> Result<(), 
     Ok(())
 }
 
-/// A sub-message acts on its dates.
-fn act_one(
+/// A sub-message acts on its dates. Returns what it found.
+pub(crate) fn act_one(
     rows: &[StationRow],
     schedule: &mut Schedule,
     sub: &Sub,
     dated: ResolvedSub,
-) -> Result<(), Memory>
-    ensures { OnOk result ((before : Timetable) → Shows schedule.old before
+) -> Result<Finding, Memory>
+    ensures shows { OnOk result ((before : Timetable) → Shows schedule.old before
         → Shows schedule.new (after_one rows.now sub.now.action dated before)) }
+    ensures found { IfOk result (λ found. (before : Timetable) → Shows schedule.old before → found
+        ≡ finding_of rows.now sub.now.action dated.period (each_day (before dated.flight))) }
 {
     // No effect at run time. The proof reads from these uses that the flight is one.
     let _ = dated.flight.number();
     let _ = dated.flight.suffix();
-    schedule.apply_sub(rows, &dated.with(&sub.action))?;
-    Ok(())
+    schedule.apply_sub(rows, &dated.with(&sub.action))
 }
 
 /// Whether a sub-message of the message names one of the flights.
@@ -80,7 +83,8 @@ fn names_one(held: &Held, flights: &[Flight]) -> bool
     held.dates().iter().any(|sub| is_among(sub.flight, flights))
 }
 
-fn is_among(flight: Flight, flights: &[Flight]) -> bool
+/// Whether a flight is one of these.
+pub(crate) fn is_among(flight: Flight, flights: &[Flight]) -> bool
     ensures { result ≡ is_among flights.now flight }
 {
     flights.iter().any(|other| flight == *other)

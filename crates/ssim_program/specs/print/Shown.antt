@@ -2,7 +2,7 @@
 use Rattle.std.specs.Prelude.{ℕ, Bool, true, false, not, ◌==◌, ◌&&◌, ◌||◌, if◌then◌else◌}
 use Rattle.std.specs.Prelude.{List, [], ◌∷◌, ◌++◌, codes}
 use Rattle.std.specs.Fmt.{decimal}
-use Rattle.std.specs.List.{flat_map, list_any}
+use Rattle.std.specs.List.{flat_map}
 use Rattle.ssim_values.specs.Day.{day_text}
 use Rattle.ssim_values.specs.Designator.{designator_text}
 use Rattle.ssim_values.specs.Flight.{FlightNumber}
@@ -10,12 +10,13 @@ use Rattle.ssim_values.specs.declared.designator.Designator.{Designator}
 use Rattle.ssim_text.specs.Lines.{identifier_text}
 use Rattle.ssim_text.specs.Reference.{printed_reference}
 use Rattle.ssim_base.specs.Export.{line}
-use Rattle.ssim_base.specs.Timetable.{LegValue, Legs, same_flight}
+use Rattle.ssim_base.specs.Timetable.{LegValue, Legs}
 use Rattle.ssim_schedule.specs.declared.finding.Finding.{Finding}
 use Rattle.ssim_schedule.specs.declared.finding.Reason.{Reason}
 use Rattle.ssim_schedule.specs.declared.finding.Reason.TheVariants.{Acted, Absent, Present, Leg, Station}
 use Rattle.ssim_desk.specs.declared.date_step.DateStep.{DateStep}
 use Rattle.ssim_desk.specs.declared.finding_line.FindingLine.{FindingLine}
+use Rattle.ssim_parts.specs.Chosen.{Choosing, chooses_flight}
 use Rattle.ssim_listing.specs.LegText.{leg_text}
 use Rattle.ssim_listing.specs.Marks.{marked_line}
 use Rattle.ssim_program.specs.print.PrintedLine.{finding_text}
@@ -98,21 +99,26 @@ fails found =
     || not (found.absent == 0) || not (found.present == 0) || not (found.leg == 0)
     || not (found.station == 0)
 
--- whether no flight is named, or this is one of those named
-abbrev pub is_of_one : List Designator → FlightNumber → Bool
-is_of_one [] flight = true
-is_of_one (d ∷ named) flight = list_any (λ one. same_flight flight one.flight) (d ∷ named)
+-- whether a date is counted, each under one of the reasons
+abbrev pub has_dates : Finding → Bool
+has_dates found =
+    not (found.acted == 0)
+    || not (found.absent == 0) || not (found.present == 0) || not (found.leg == 0)
+    || not (found.station == 0)
 
--- whether a sub-message is printed: of these flights, and of all or only those that did not act
-abbrev pub is_shown : Bool → List Designator → FindingLine → Bool
-is_shown not_acted flights found =
-    is_of_one flights found.designator.flight && (not not_acted || fails found.finding)
+-- whether a sub-message is printed: of a chosen flight; if a span is given, with a date in it; and
+-- of all or only those that did not act
+abbrev pub is_shown : Bool → Bool → Choosing → FindingLine → Bool
+is_shown not_acted spanned choice found =
+    chooses_flight choice found.designator.flight
+    && (not spanned || has_dates found.finding) && (not not_acted || fails found.finding)
 
 -- the line of a sub-message, if it is printed
-abbrev pub chosen_line : Bool → List Designator → FindingLine → List ℕ
-chosen_line not_acted flights found =
-    if is_shown not_acted flights found then line (finding_text found) else []
+abbrev pub chosen_line : Bool → Bool → Choosing → FindingLine → List ℕ
+chosen_line not_acted spanned choice found =
+    if is_shown not_acted spanned choice found then line (finding_text found) else []
 
 -- a line for each sub-message that is printed
-abbrev pub findings_lines : Bool → List Designator → List FindingLine → List ℕ
-findings_lines not_acted flights found = flat_map (chosen_line not_acted flights) found
+abbrev pub findings_lines : Bool → Bool → Choosing → List FindingLine → List ℕ
+findings_lines not_acted spanned choice found =
+    flat_map (chosen_line not_acted spanned choice) found

@@ -1,47 +1,59 @@
 //! The command `texts`: the messages that a desk holds, as their canonical texts.
 
 ghost use Rattle.std.specs.Prelude.{◌≡◌, ◌++◌, [], ◌∷◌, if◌then◌else◌, IfOk, OnOk, map};
+ghost use Rattle.std.specs.List.{list_any};
 ghost use Rattle.ssim_text.specs.Canonical.{canonical};
-ghost use Rattle.ssim_program.specs.Messages.{is_chosen, message_texts};
-ghost use Rattle.ssim_program.specs.Messages.{messages_on, names_one};
+ghost use Rattle.ssim_command_line.specs.Line.{span_line};
+ghost use Rattle.ssim_program.specs.Messages.{is_all, is_chosen, is_sub_chosen, message_texts};
+ghost use Rattle.ssim_program.specs.Messages.{messages_on};
 ghost use Rattle.ssim_program.specs.Answers.{texts};
 ghost use Rattle.ssim_program.specs.internal.Program.{Answers};
 
-use crate::command::named_flights::{is_among, named_flights};
+use crate::command::span::{dates_alone, has_date, has_end, has_flight};
 use crate::desk_file::open_holdings;
 use crate::refusal::Refusal;
 use crate::store::Store;
+use ssim_base::ResolvedSub;
+use ssim_command_line::SpanWords;
 use ssim_desk::Held;
-use ssim_values::{Designator, Memory};
+use ssim_parts::Choice;
+use ssim_values::{Flight, Memory};
 use std::alloc::Global;
 
-/// The texts of the messages that the desk in a file holds; with flights, of those that name one of
-/// them.
+/// The texts of the messages that the desk in a file holds; with flights or a span of dates, of
+/// those of which one sub-message is of such a flight and has such a date.
 pub(crate) fn texts<S: Store>(
     alloc: Global,
+    span: SpanWords<'_>,
     file: &str,
     flights: &[&str],
     store: &mut S,
 ) -> Result<Vec<u8>, Refusal>
-    ensures answer { Answers (texts (S.files store.old) file.now (map (λ t. t.now) flights.now)) result }
+    ensures answer { Answers (texts (S.files store.old) (span_line span.entry) file.now
+        (map (λ t. t.now) flights.now)) result }
     ensures same { S.files store.new ≡ S.files store.old }
     ensures counted { S.failures store.new ≡ S.failures store.old }
 {
     let desk = open_holdings(alloc, file, store)?;
-    let flights = named_flights(alloc, desk.data_set().airline(), flights)?;
-    let texts = texts_of(alloc, desk.held(), &flights)?;
+    let choice = dates_alone(alloc, desk.data_set().airline(), span, flights)?;
+    let texts = texts_of(alloc, desk.held(), has_end(span), &choice)?;
     Ok(texts)
 }
 
 /// The texts of the chosen messages, with an empty line between two.
-fn texts_of(alloc: Global, held: &[Held], flights: &[Designator]) -> Result<Vec<u8>, Memory>
+fn texts_of(
+    alloc: Global,
+    held: &[Held],
+    has_span: bool,
+    choice: &Choice,
+) -> Result<Vec<u8>, Memory>
     ensures { IfOk result
-        (λ texts. texts.items ≡ message_texts (messages_on flights.now held.now)) }
+        (λ texts. texts.items ≡ message_texts (messages_on has_span choice.now held.now)) }
 {
     let mut texts = Vec::new(alloc);
     let mut is_first = true;
     for message in held {
-        if is_chosen(message, flights) {
+        if is_chosen(message, has_span, choice) {
             push_text(&mut texts, is_first, message)?;
             is_first = false;
         }
@@ -66,22 +78,36 @@ fn separator(is_first: bool) -> &'static [u8]
     if is_first { b"" } else { b"\n" }
 }
 
-/// Whether no flight is named, or the message names one of them.
-fn is_chosen(message: &Held, flights: &[Designator]) -> bool
-    ensures { result ≡ is_chosen flights.now message.now }
+/// Whether neither flights nor a span are given, or one sub-message is chosen by both.
+fn is_chosen(message: &Held, has_span: bool, choice: &Choice) -> bool
+    ensures { result ≡ is_chosen has_span choice.now message.now }
+{
+    is_all(has_span, &choice.flights) || has_chosen_sub(message, has_span, choice)
+}
+
+/// Whether neither flights nor a span are given.
+fn is_all(has_span: bool, flights: &[Flight]) -> bool
+    ensures { result ≡ is_all has_span flights.now }
 {
     match flights.split_first() {
-        None => true,
-        Some(_) => names_one(message, flights),
+        None => !has_span,
+        Some(_) => false,
     }
 }
 
-/// Whether a sub-message of the message names one of the flights.
-fn names_one(message: &Held, flights: &[Designator]) -> bool
-    ensures { result ≡ names_one flights.now message.now }
+/// Whether a sub-message of the message is chosen.
+fn has_chosen_sub(message: &Held, has_span: bool, choice: &Choice) -> bool
+    ensures { result ≡ list_any (is_sub_chosen has_span choice.now) message.now.dates }
 {
     message
         .dates()
         .iter()
-        .any(|sub| is_among(sub.flight, flights))
+        .any(|sub| is_sub_chosen(sub, has_span, choice))
+}
+
+/// Whether a sub-message is of a chosen flight and, if a span is given, has a chosen date.
+fn is_sub_chosen(sub: &ResolvedSub, has_span: bool, choice: &Choice) -> bool
+    ensures { result ≡ is_sub_chosen has_span choice.now sub.now }
+{
+    has_flight(choice, sub.flight) && (!has_span || has_date(&sub.period, choice))
 }

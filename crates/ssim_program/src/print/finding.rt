@@ -2,16 +2,18 @@
 
 ghost use Rattle.std.specs.Prelude.{◌≡◌, ◌++◌, IfOk, OnOk};
 ghost use Rattle.ssim_base.specs.Export.{line};
-ghost use Rattle.ssim_desk.specs.Desk.{finding_lines};
+ghost use Rattle.ssim_program.specs.Spans.{lines_found};
 ghost use Rattle.ssim_program.specs.print.PrintedLine.{counts_text, finding_text, sub_text};
-ghost use Rattle.ssim_program.specs.print.Shown.{chosen_line, fails, findings_lines, is_of_one};
+ghost use Rattle.ssim_program.specs.print.Shown.{chosen_line, fails, findings_lines, has_dates};
 ghost use Rattle.ssim_program.specs.print.Shown.{is_shown};
 
-use crate::command::named_flights::is_among;
+use crate::chosen_findings::findings_on;
+use crate::command::span::has_flight;
 use ssim_desk::{FindingLine, Holdings};
 use ssim_lines::{Printed, push_each, written};
+use ssim_parts::Choice;
 use ssim_schedule::Finding;
-use ssim_values::{Designator, Flight, Memory};
+use ssim_values::Memory;
 use std::alloc::Global;
 use std::io::Write;
 
@@ -20,8 +22,10 @@ use std::io::Write;
 pub(crate) struct FindingChoice<'a> {
     /// Only those that did not act on a date.
     pub(crate) not_acted: bool,
-    /// Only those of one of these flights, if there is one.
-    pub(crate) flights: &'a [Designator],
+    /// Only those with a chosen date, and these dates alone are counted.
+    pub(crate) has_span: bool,
+    /// The flights and the dates that are chosen.
+    pub(crate) choice: &'a Choice,
 }
 
 /// A line for each chosen sub-message that the desk holds, in order.
@@ -31,16 +35,34 @@ pub(crate) fn lines_of(
     choice: &FindingChoice<'_>,
 ) -> Result<Vec<u8>, Memory>
     ensures { IfOk result (λ lines. lines.items
-        ≡ findings_lines choice.now.not_acted choice.now.flights.now (finding_lines desk.now)) }
+        ≡ findings_lines choice.now.not_acted choice.now.has_span choice.now.choice.now
+        (lines_found choice.now.has_span choice.now.choice.now desk.now)) }
 {
-    let findings = desk.findings()?;
+    let findings = lines_found(alloc, desk, choice.has_span, choice.choice)?;
     let mut lines = Vec::new(alloc);
     push_each(&mut lines, choice, &findings)?;
     Ok(lines)
 }
 
+/// What each sub-message found on all its dates or, if a span is given, on the chosen ones.
+fn lines_found(
+    alloc: Global,
+    desk: &Holdings,
+    has_span: bool,
+    choice: &Choice,
+) -> Result<Vec<FindingLine>, Memory>
+    ensures { IfOk result (λ lines. lines.items ≡ lines_found has_span choice.now desk.now) }
+{
+    if has_span {
+        findings_on(alloc, desk, choice)
+    } else {
+        desk.findings()
+    }
+}
+
 impl Printed<FindingChoice<'_>> for FindingLine {
-    ghost text = { λ choice found. chosen_line choice.not_acted choice.flights.now found };
+    ghost text = { λ choice found.
+        chosen_line choice.not_acted choice.has_span choice.choice.now found };
 
     fn print(&self, choice: &FindingChoice<'_>, lines: &mut Vec<u8>) -> Result<(), Memory> {
         if is_shown(self, choice) {
@@ -53,20 +75,26 @@ impl Printed<FindingChoice<'_>> for FindingLine {
 
 /// Whether a sub-message is printed.
 fn is_shown(found: &FindingLine, choice: &FindingChoice<'_>) -> bool
-    ensures { result ≡ is_shown choice.now.not_acted choice.now.flights.now found.now }
+    ensures { result ≡ is_shown choice.now.not_acted choice.now.has_span choice.now.choice.now
+        found.now }
 {
-    is_of_one(found.designator.flight, choice.flights)
+    has_flight(choice.choice, found.designator.flight)
+        && (!choice.has_span || has_dates(&found.finding))
         && (!choice.not_acted || fails(&found.finding))
 }
 
-/// Whether no flight is named, or this is one of those named.
-fn is_of_one(flight: Flight, flights: &[Designator]) -> bool
-    ensures { result ≡ is_of_one flights.now flight }
+/// Whether a date is counted.
+fn has_dates(finding: &Finding) -> bool
+    ensures { result ≡ has_dates finding.now }
 {
-    match flights.split_first() {
-        None => true,
-        Some(_) => is_among(flight, flights),
-    }
+    let Finding {
+        acted,
+        absent,
+        present,
+        leg,
+        station,
+    } = *finding;
+    acted != 0 || absent != 0 || present != 0 || leg != 0 || station != 0
 }
 
 /// Whether a sub-message acted on no date, or did not act on one of its dates.

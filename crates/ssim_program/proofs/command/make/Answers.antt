@@ -1,7 +1,7 @@
 -- Each request makes what its command does.
 use Rattle.std.proofs.Common.{◌≡◌, Bor, Err, List, ℕ, Ok, Option, Result, Vec, map, option_map, refl}
 use Rattle.std.proofs.Common.{subst, sym}
-use Rattle.ssim_command_line.specs.Line.{choice_line, line_of}
+use Rattle.ssim_command_line.specs.Line.{choice_line, line_of, span_line}
 use Rattle.ssim_command_line.specs.declared.command_line.Request.{Request}
 use Rattle.ssim_program.specs.Acts.{prints}
 use Rattle.ssim_program.specs.Answer.{Answer}
@@ -109,11 +109,11 @@ pub returns-in-Texts-clause-answer : goal.returns-in-Texts-clause-answer
 returns-in-Texts-clause-answer g c = let old = g.S.Store.files c.args.store.now in
     made_of _ _ _ _ _ c.in-Texts.is
     (lines_of g.S.Hold.Hold.file old
-    (answer.texts old c.in-Texts.desk.now (map (λ t. t.now) c.in-Texts.flights.items))
-    c.texts.result c.lines-in-Texts.result
+    (answer.texts old (span_line c.in-Texts.span) c.in-Texts.desk.now
+    (map (λ t. t.now) c.in-Texts.flights.items)) c.texts.result c.lines-in-Texts.result
     (subst (λ (words : List (Bor (List ℕ))). Answers
-    (answer.texts old c.in-Texts.desk.now (map (λ t. t.now) words)) c.texts.result)
-    c.deref-in-Texts.ensures.value c.texts.ensures.answer)
+    (answer.texts old (span_line c.in-Texts.span) c.in-Texts.desk.now (map (λ t. t.now) words))
+    c.texts.result) c.deref-in-Texts.ensures.value c.texts.ensures.answer)
     c.lines-in-Texts.ensures)
 
 pub returns-in-Show-clause-answer : goal.returns-in-Show-clause-answer
@@ -186,11 +186,12 @@ pub returns-in-Findings-clause-answer : goal.returns-in-Findings-clause-answer
 returns-in-Findings-clause-answer g c = let old = g.S.Store.files c.args.store.now in
     made_of _ _ _ _ _ c.in-Findings.is
     (lines_of g.S.Hold.Hold.file old
-    (answer.findings old c.in-Findings.not_acted c.in-Findings.desk.now
-    (map (λ t. t.now) c.in-Findings.flights.items))
+    (answer.findings old c.in-Findings.not_acted (span_line c.in-Findings.span)
+    c.in-Findings.desk.now (map (λ t. t.now) c.in-Findings.flights.items))
     c.findings.result c.lines-in-Findings.result
     (subst (λ (words : List (Bor (List ℕ))). Answers
-    (answer.findings old c.in-Findings.not_acted c.in-Findings.desk.now (map (λ t. t.now) words))
+    (answer.findings old c.in-Findings.not_acted (span_line c.in-Findings.span)
+    c.in-Findings.desk.now (map (λ t. t.now) words))
     c.findings.result) c.deref-in-Findings.ensures.value c.findings.ensures.answer)
     c.lines-in-Findings.ensures)
 

@@ -1,4 +1,5 @@
-use Rattle.ssim_program.proofs.EqualFiles.{export_alike, findings_alike, texts_alike}
+use Rattle.ssim_program.proofs.EqualFiles.{export_alike}
+use Rattle.ssim_program.proofs.EqualSpans.{findings_alike, texts_alike}
 use Rattle.ssim_program.proofs.CarriedFiles.{carry_same}
 use Rattle.ssim_program.proofs.EqualFiles.{withdraw_same}
 use Rattle.ssim_program.proofs.laws.equal_desk_files_do_the_same.Goals as goal

@@ -27,7 +27,7 @@ loop-place-preserved c = λ before shows.
     let l = c.loop-place.invariant before shows in
     record {
       between = after_one rows c.sub-item.result.action c.index-dates-place.result l.between;
-      shows = c.in_ok-act_one.ensures l.between l.shows;
+      shows = c.in_ok-act_one.ensures.shows l.between l.shows;
       leads = leads_on rows _ _ _ _ c.sub-item.result c.index-dates-place.result l.between subs dates
           ∙ l.leads;
     }

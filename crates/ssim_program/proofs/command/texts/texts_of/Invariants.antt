@@ -6,4 +6,4 @@ use Rattle.ssim_program.proofs.command.texts.texts_of.Given as goal
 
 abbrev pub invariant-loop-message : goal.invariant-loop-message
 invariant-loop-message l =
-    l.texts.items ++ texts_after l.is_first (messages_on l.flights (drop l.message-index l.held)) ≡ message_texts (messages_on l.flights l.held)
+    l.texts.items ++ texts_after l.is_first (messages_on l.has_span l.choice (drop l.message-index l.held)) ≡ message_texts (messages_on l.has_span l.choice l.held)

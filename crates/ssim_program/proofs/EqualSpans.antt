@@ -1,0 +1,53 @@
+-- Words choose the same sub-messages of equal desk files, and these find the same.
+use Rattle.std.proofs.Common.{◌≡◌, ℕ, Bool, List, Some}
+use Rattle.ssim_held.specs.Entries.{DeskSeen}
+use Rattle.ssim_held.specs.File.{NoTwoDesks}
+use Rattle.ssim_parts.specs.Chosen.{Choosing}
+use Rattle.ssim_command_line.specs.Line.{Findings, Line, SpanTexts, Text, Texts}
+use Rattle.ssim_program.specs.Answer.{Answer, ◌>>=◌}
+use Rattle.ssim_program.specs.Desks.{desk_in}
+use Rattle.ssim_program.specs.EqualFiles.{AreAlike, DoesTheSame, PrintTheSame}
+use Rattle.ssim_program.specs.Acts.{prints}
+use Rattle.ssim_program.specs.Messages.{message_texts, messages_on}
+use Rattle.ssim_program.specs.Spans.{dates_alone, has_end, lines_found}
+use Rattle.ssim_program.specs.print.Shown.{findings_lines}
+use Rattle.ssim_program.proofs.Alike.{Equal, prints_alike, then_alike}
+use Rattle.ssim_program.proofs.EqualFiles.{seen}
+use Rattle.ssim_program.proofs.EqualParts.{lines_alike, lines_of}
+use Rattle.ssim_program.proofs.SameReading.{SameDesk, desk_alike}
+
+abbrev texts_of : Bool → DeskSeen → Choosing → List ℕ
+texts_of spanned desk choice = message_texts (messages_on spanned choice desk.held)
+
+abbrev findings_of : Bool → Bool → DeskSeen → Choosing → List ℕ
+findings_of not_acted spanned desk choice =
+    findings_lines not_acted spanned choice (lines_found spanned choice desk)
+
+module _ (no_two : NoTwoDesks) where
+  pub texts_alike : (span : SpanTexts) (words : List Text)
+      → DoesTheSame (λ file. Texts span file words)
+  texts_alike span words files others name another same =
+      let mine = desk_in (Some files) name in
+      let theirs = desk_in (Some others) another in
+      let lines = texts_of (has_end span) in
+      let printed = lines_of lines (dates_alone span) words in
+      prints_alike (mine >>= printed) (theirs >>= printed)
+      (then_alike SameDesk Equal mine theirs printed printed
+      (desk_alike files others name another same no_two)
+      (lines_alike lines
+      (λ desk other choice that one both. λ i. lines (seen (one.0 i) (one.1 i)) (both i))
+      (dates_alone span) words))
+
+  pub findings_alike : (not_acted : Bool) (span : SpanTexts) (words : List Text)
+      → DoesTheSame (λ file. Findings not_acted span file words)
+  findings_alike not_acted span words files others name another same =
+      let mine = desk_in (Some files) name in
+      let theirs = desk_in (Some others) another in
+      let lines = findings_of not_acted (has_end span) in
+      let printed = lines_of lines (dates_alone span) words in
+      prints_alike (mine >>= printed) (theirs >>= printed)
+      (then_alike SameDesk Equal mine theirs printed printed
+      (desk_alike files others name another same no_two)
+      (lines_alike lines
+      (λ desk other choice that one both. λ i. lines (seen (one.0 i) (one.1 i)) (both i))
+      (dates_alone span) words))
