@@ -4,23 +4,44 @@ Each case has a data set or a desk, as in `parts`, and choices of its flights, d
 `export` writes (flight_dates.py) each is taken or left by itself. `list`, in each of its forms, and `calendar` have to print what follows from
 those that are taken; and what they print of the data set that `select` writes with the same choice, byte for byte. In a case of `words` some
 words are invalid, and the refusal is that of the first of them by kind. In a case of `several` `show` of several flights has to print what
-follows from their dates, and `show`, `history` and `calendar` what they print of each flight alone. Of a desk `findings` of some flights, and of what did not act, has to
-print those lines of all findings.
+follows from their dates, and `show`, `history` and `calendar` what they print of each flight alone. Of a desk `findings` of some flights, and
+of what did not act, has to print those lines of all findings.
+
+A case of `spans` has a desk with some messages, whose dates the model of `carry` finds in the desk file. With a span `findings` has to count what
+`history` says of each of these dates, and `texts` has to print the messages that follow from them. `findings` to a date and from the next one
+on have together the numbers of all. In a case of `span words` some words of the two commands are invalid.
 """
 import copy
 import datetime
+import re
 
+import carry
+import messages
 import parts
-from chapter7 import DAY, date
+import small
+from chapter7 import DAY, date, dates_of
 from flight_dates import Timetable, calendar, listed, listed_dates, rows
 from room import Answer, said
 
-KINDS = ["choice", "choice", "choice", "several", "words"]
+KINDS = ["choice", "choice", "choice", "several", "words", "spans", "spans", "span words"]
+REASONS = ["acted", "absent", "present", "leg", "station"]
+# The most dates that are looked at one by one.
+MANY = 60
 FORMS = {(): listed, ("--dates",): listed_dates, ("--csv",): rows,
          ("--csv", "--dates"): lambda table, flights=None: rows(table, flights, True)}
 COMMANDS = [("list",), ("list", "--csv"), ("list", "--dates"), ("calendar",)]
 
-make = parts.make
+
+def make(rng, room, kind):
+    """Writes the file FILE, a data set or a desk."""
+    if kind not in ("spans", "span words"):
+        return parts.make(rng, room, kind)
+    season, _ = room.write_base(rng, "data", small.data_set(rng))
+    room("start", "data", "stations", "FILE")
+    for _ in range(rng.choice([1, 4, 8])):
+        room.write("text", messages.written(messages.message(rng, season)))
+        room("take", "FILE", "FILE", "text")
+    return kind
 
 
 # ---- what follows from flight dates
@@ -124,7 +145,127 @@ def of_findings(room, names):
         yield f"findings --not-acted {words}", room("findings", "FILE", *words, "--not-acted"), wanted
 
 
+# ---- spans
+
+class Sub:
+    """A sub-message of a desk: what `findings` prints of it before its numbers, its flight, and its dates."""
+
+    def __init__(self, airline, line, flight, first, last, days):
+        self.name, _, numbers = line.partition(" acted ")
+        self.flight, self.dates = airline + flight, dates_of(first, last, days)
+        self.whole = [int(word) for word in numbers.split()[::2]]
+
+    def line(self, counts):
+        return self.name + "".join(f" {word} {count}" for word, count in zip(REASONS, counts))
+
+
+def subs_of(desk, lines):
+    """The sub-messages of each message, in order: a text and its sub-messages."""
+    lines = iter(lines)
+    return [(text, [Sub(desk.base.airline, next(lines), *sub) for sub in carry.meant(desk.base, text).subs])
+            for _, text in sorted(desk.held.items())]
+
+
+def happened(room, subs, days):
+    """What `history` says of each date on which one of the sub-messages is: a word for each sub-message, flight and date."""
+    words = {}
+    for day in days:
+        flights = sorted({sub.flight for sub in subs if day in sub.dates})
+        flight = None
+        for line in room("history", "FILE", *flights, date(day)).out.decode("ascii").splitlines() if flights else []:
+            if re.fullmatch(r"\S+ \d\d[A-Z]{3}\d\d", line):
+                flight = line.split()[0]
+            elif line.startswith(("SSM ", "ASM ")):
+                name, _, word = line.rpartition(" ")
+                words[f"{name} {flight}", day] = word
+    return words
+
+
+def numbers(answer):
+    """The numbers of each line of `findings`, by what is before them."""
+    lines = (line.partition(" acted ") for line in answer.out.decode("ascii").splitlines())
+    return {name: [int(word) for word in rest.split()[::2]] for name, _, rest in lines}
+
+
+def of_span(rng, room, texts, names, span):
+    """What is compared of a span, of which an end may be missing."""
+    first, last = (end or limit for end, limit in zip(span, (parts.FIRST, parts.LAST)))
+    ends = [[word, date(end)] for word, end in zip(("--from", "--to"), span) if end]
+    rng.shuffle(ends)
+    words = [word for end in ends for word in end]
+    cut = rng.choice([0, len(words)])
+    words = [*words[:cut], "FILE", *names, *words[cut:]]
+    chosen = {sub: [day for day in sub.dates if first <= day <= last] for _, subs in texts for sub in subs if not names or sub.flight in names}
+    wanted = [text for text, subs in texts if not ends and not names or any(sub in chosen and (not ends or chosen[sub]) for sub in subs)]
+    room.counts["texts of a span" if 0 < len(wanted) < len(texts) else "all or no texts of a span"] += 1
+    yield f"texts {words}", room("texts", *words), Answer(0, b"\n".join(wanted), "")
+    days = sorted({day for dates in chosen.values() for day in dates})
+    if len(days) > MANY:
+        return
+    said_of = happened(room, chosen, days)
+    lines = []
+    for sub, dates in chosen.items():
+        counts = [sum(said_of.get((sub.name, day)) == word for day in dates) for word in REASONS]
+        yield f"history has each date of {sub.name}", sum(counts), len(dates)
+        if dates or not ends:
+            lines.append((counts, sub.line(counts)))
+    room.counts["findings of a span" if 0 < len(lines) < len(chosen) else "all or no findings of a span"] += 1
+    yield f"findings {words}", room("findings", *words), said([line for _, line in lines])
+    left = [line for counts, line in lines if counts[0] == 0 or any(counts[1:])]
+    yield f"findings --not-acted {words}", room("findings", "--not-acted", *words), said(left)
+
+
+def of_halves(room, subs, names, day):
+    """What is compared of the dates up to a day, and of those after it."""
+    whole, ends = room("findings", "FILE", *names), (["--to", date(day)], ["--from", date(day + DAY)])
+    before, after = (numbers(room("findings", *end, "FILE", *names)) for end in ends)
+    none = [0] * len(REASONS)
+    both = {sub.name: [x + y for x, y in zip(before.get(sub.name, none), after.get(sub.name, none))] for sub in subs
+            if not names or sub.flight in names}
+    yield f"findings of both sides of {day}", both, numbers(whole)
+
+
+def of_spans(rng, room):
+    """What is compared of spans of dates."""
+    desk = carry.Desk(room.read("FILE"))
+    lines = room("findings", "FILE").out.decode("ascii").splitlines()
+    texts = subs_of(desk, lines)
+    subs = [sub for _, found in texts for sub in found]
+    yield "a line for each sub-message", [sub.line(sub.whole) for sub in subs], lines
+    days = sorted({day for sub in subs for day in sub.dates}) or [desk.base.first]
+    for _ in range(6):
+        flights = sorted({sub.flight for sub in subs}) + [desk.base.airline + "001"]
+        names = rng.choices(flights, k=rng.choice([1, 2])) if rng.random() < 0.5 else []
+        first = rng.choice(days) + rng.choice([-1, 0, 0, 1]) * DAY
+        last = min(first + rng.choice([0, 0, 1, 6, 30, 90]) * DAY, parts.LAST)
+        yield from of_span(rng, room, texts, names, rng.choice([(first, last), (first, last), (None, first), (first, None), (None, None)]))
+        yield from of_halves(room, subs, names, min(rng.choice(days) + rng.choice([-1, 0, 1]) * DAY, parts.LAST - DAY))
+
+
+def of_span_words(rng, room):
+    """What is compared of the words of the two commands, some of which are invalid."""
+    kinds = [kind for kind in parts.ORDER if kind not in ("station", "aircraft")]
+    wrong = {kind for kind in kinds if rng.random() < 0.4} or {"to"}
+    flights = ["Z7A"] * ("flight" in wrong) + ["XX123"] * ("airline" in wrong) + ["101"]
+    rng.shuffle(flights)
+    first = "32JAN27" if "from" in wrong else "2jan27"
+    last = "2027-02-30" if "to" in wrong else "2027-01-01" if "turned" in wrong else "2 jan 27"
+    if {"from", "to"} & wrong:
+        wrong.discard("turned")
+    fault = next(parts.REFUSALS[kind] for kind in kinds if kind in wrong)
+    room.counts[f"span words: {fault}"] += 1
+    for command in ["texts"], ["findings"], ["findings", "--not-acted"]:
+        words = [*command, "--from", first, "--to", last, "FILE", *flights]
+        yield " ".join(words), room(*words), Answer(1, b"", f"refused {fault}\n")
+
+
 def compared(rng, room, kind):
+    if kind == "spans":
+        yield from of_spans(rng, room)
+        return
+    if kind == "span words":
+        yield from of_span_words(rng, room)
+        return
     if kind == "words":
         yield from parts.of_words(rng, room, *rng.choice(COMMANDS))
         return

@@ -204,6 +204,18 @@ desks_printed() {
     expect "findings of what did not act" 0 "" "" findings --not-acted held
     expect "findings of another airline" 1 "" $'refused 41 Airline sub 0\n' findings held XX544
     expect "findings of no flight" 1 "" $'refused 6 BadDesignator\n' findings held XX544 54Z4
+    expect "findings of a date" 0 $'SSM 01JUN25 00001 001 1 CNL LX544 acted 1 absent 0 present 0 leg 0 station 0\n' "" \
+        findings --from 1jul25 --to 2025-07-01 held 544
+    expect "findings of other dates" 0 "" "" findings --from 02JUL25 held
+    expect "findings to a date" 0 "" "" findings held --to 30jun25
+    expect "findings of no date" 1 "" $'refused 1 BadDate\n' findings --to 31JUN25 --from 1jul25 held XX544
+    expect "findings of turned dates" 1 "" $'refused 43 Period sub 0\n' findings --to 30JUN25 --from 1jul25 held
+    expect "findings of dates twice" 2 "" "~the argument '--to <DATE>' cannot be used multiple times" findings --to 30JUN25 --to 1jul25 held
+    expect "texts of other dates" 0 "" "" texts --from 02JUL25 held
+    expect "texts of a date" 0 @x2 "" texts held --to 1jul25 --from 1jul25 544
+    expect "texts of another flight on a date" 0 "" "" texts held --to 1jul25 540
+    expect "texts of no flight" 1 "" $'refused 6 BadDesignator\n' texts --to 31JUN25 held 54Z4
+    expect "texts of another airline" 1 "" $'refused 41 Airline sub 0\n' texts --from 2jul25 --to 1jul25 held XX544
     expect "a desk without texts is exported" 0 "@$tidied" "" export desk
     to=/dev/full expect "an export cannot be written" 1 "" $'refused 52 WriteFault\n' export held
     expect "a rehearsal" 0 @rehearsed "" rehearse divided.ssim none script
