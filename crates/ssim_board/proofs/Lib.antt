@@ -4,3 +4,4 @@ pub mod Times
 pub mod Near
 pub mod OnBoard
 pub mod InMinutes
+pub mod TwoKinds

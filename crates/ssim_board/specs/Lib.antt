@@ -2,6 +2,7 @@ pub mod LocalTime
 pub mod LegTimes
 pub mod Movements
 pub mod InOrder
+pub mod Kinds
 pub mod Lines
 pub mod clauses
 pub mod examples

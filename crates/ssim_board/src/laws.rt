@@ -1,5 +1,6 @@
 //! What is on a board.
 
+ghost use Rattle.ssim_board.specs.Kinds.{EachIsOfOneKind};
 ghost use Rattle.ssim_board.specs.Movements.{OnlyNearDates};
 // The worked examples, which are computed: a false one is an error in this file.
 ghost use Rattle.ssim_board.specs.examples.Boards;
@@ -8,4 +9,9 @@ ghost use Rattle.ssim_board.specs.examples.Boards;
 /// the board.
 pub fn only_near_dates()
     ensures { OnlyNearDates }
+{}
+
+/// Of any movements, each is a departure or an arrival, and none is both.
+pub fn each_is_of_one_kind()
+    ensures { EachIsOfOneKind }
 {}

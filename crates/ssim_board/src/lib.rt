@@ -4,9 +4,11 @@
 //!   gives what is on it, from flights that need be right from `first_date` to `last_date` alone.
 //! - [`Movement`]: a departure or an arrival of a leg ([`MovementKind`]), with its local time, its
 //!   flight, and the other station of the leg.
+//! - [`of_kind`]: the departures or the arrivals alone.
 //! - [`board_lines`]: a line for each departure and arrival on a board.
 //! - [`LocalTime`]: a day and a time of day at a station. The day may be beside the calendar.
-//! - [`laws`]: only dates of origin near the date of a board have something on it.
+//! - [`laws`]: only dates of origin near the date of a board have something on it; a movement is a
+//!   departure or an arrival.
 //!
 //! A leg departs on the date of origin plus its date variation of departure, and arrives on the
 //! date of origin plus its date variation of arrival. In UTC mode the times are moved by the UTC
@@ -19,6 +21,7 @@
 
 mod board;
 mod in_order;
+mod kinds;
 pub mod laws;
 mod leg_times;
 mod lines;
@@ -26,6 +29,7 @@ mod local_time;
 mod movement;
 
 pub use board::Board;
+pub use kinds::of_kind;
 pub use lines::board_lines;
 pub use local_time::LocalTime;
 pub use movement::{Movement, MovementKind};

@@ -1,7 +1,9 @@
 -- Lines with options, computed: which command the words name.
-use Rattle.std.proofs.Common.{true, false, refl, [], ◌∷◌, Some, None, codes}
+use Rattle.std.proofs.Common.{◌≡◌, true, false, refl, [], ◌∷◌, Some, None, codes}
 use Rattle.clap.proofs.OnLiterals.{clap_on_literals}
-use Rattle.ssim_command_line.specs.Line.{Calendar, ChoiceTexts, Findings, Listing, Receive, Select}
+use Rattle.ssim_command_line.specs.Line.{Board, Calendar, ChoiceTexts, Findings, Listing, Receive}
+use Rattle.ssim_command_line.specs.Line.{Select, days_in}
+use Rattle.ssim_command_line.specs.declared.board_form.Direction.TheVariants.{Arrivals}
 use Rattle.ssim_command_line.specs.Usage.{Names}
 
 abbrev all_dates : ChoiceTexts
@@ -59,3 +61,23 @@ from_a_date : Names (codes "ssimdesk" ∷ codes "findings" ∷ codes "--from" �
     (codes "341" ∷ []))
 unfolding clap_on_literals
 from_a_date = record { right = refl; name = codes "findings"; rows = _; entered = refl; read = refl }
+
+-- `board --days 2 --arrivals fdh.desk dxb 15jun27`: the arrivals of two dates
+two_dates : Names (codes "ssimdesk" ∷ codes "board" ∷ codes "--days" ∷ codes "2" ∷ codes "--arrivals"
+    ∷ codes "fdh.desk" ∷ codes "dxb" ∷ codes "15jun27" ∷ [])
+    (Board (record { days = Some 2; only = Some Arrivals }) (codes "fdh.desk") (codes "dxb")
+    (codes "15jun27"))
+unfolding clap_on_literals
+two_dates = record { right = refl; name = codes "board"; rows = _; entered = refl; read = refl }
+
+-- `board fdh.desk dxb 15jun27`: one date
+one_date : Names (codes "ssimdesk" ∷ codes "board" ∷ codes "fdh.desk" ∷ codes "dxb" ∷ codes "15jun27" ∷ [])
+    (Board (record { days = None; only = None }) (codes "fdh.desk") (codes "dxb") (codes "15jun27"))
+unfolding clap_on_literals
+one_date = record { right = refl; name = codes "board"; rows = _; entered = refl; read = refl }
+
+-- a number of dates has one to three digits, and is from 1 to 366
+numbers_of_days : days_in (codes "1") ∷ days_in (codes "007") ∷ days_in (codes "366") ∷ days_in (codes "0")
+    ∷ days_in (codes "367") ∷ days_in (codes "0366") ∷ days_in (codes "+7") ∷ days_in [] ∷ []
+    ≡ Some 1 ∷ Some 7 ∷ Some 366 ∷ None ∷ None ∷ None ∷ None ∷ None ∷ []
+numbers_of_days = refl

@@ -11,12 +11,14 @@ use Rattle.ssim_command_line.specs.Line.{Command, Line, Text, any_texts, command
 use Rattle.ssim_command_line.specs.Line.{one, one_and_several, one_and_texts, one_or_two}
 use Rattle.ssim_command_line.specs.Line.{one_or_two_values, one_value, three}
 use Rattle.ssim_command_line.specs.Line.{three_values, two, two_and_texts}
+use Rattle.ssim_command_line.specs.Line.{board_form_of, board_words, formed_three}
 use Rattle.ssim_command_line.specs.Line.{choice_of, choice_words, flag, form_of, is_given, optional}
 use Rattle.ssim_command_line.specs.Line.{several_texts, span_of, span_words}
 use Rattle.ssim_command_line.specs.Line.{two_values, values_in}
 use Rattle.ssim_command_line.specs.Line.{Board, Calendar, Check, Diff, Explain, Export, Findings, History, Listing}
 use Rattle.ssim_command_line.specs.Line.{Merge, Page, Problems, Publish, Receive, Rehearse, Select, Show, Start}
 use Rattle.ssim_command_line.specs.Line.{Carry, Convert, Split, Take, Texts, Tidy, Withdraw, mode_and_two}
+use Rattle.ssim_command_line.specs.declared.board_form.BoardForm.{BoardForm}
 use Rattle.ssim_command_line.specs.declared.command_line.ModeWord.{ModeWord}
 use Rattle.ssim_command_line.specs.Usage.{bare_program, leaf}
 use Rattle.ssim_command_line.proofs.PlainWords.{Outcome, outcome, plain_walked, step_at}
@@ -86,6 +88,16 @@ three_reader name words make r (a ∷ []) e = no_line e
 three_reader name words make r (a ∷ b ∷ []) e = no_line e
 three_reader name words make r (a ∷ b ∷ d ∷ []) e = r a b d
 three_reader name words make r (a ∷ b ∷ d ∷ f ∷ rest) e = no_line e
+
+formed_reader : (name : Text) (words : List Rule) (make : BoardForm → Text → Text → Text → Line)
+    (form : List Row → Option BoardForm)
+    → ((a b d : Text) → Reads (by name words (λ rows. formed_three make (form rows))) (a ∷ b ∷ d ∷ []))
+    → IsReader (by name words (λ rows. formed_three make (form rows)))
+formed_reader name words make form r [] e = no_line e
+formed_reader name words make form r (a ∷ []) e = no_line e
+formed_reader name words make form r (a ∷ b ∷ []) e = no_line e
+formed_reader name words make form r (a ∷ b ∷ d ∷ []) e = r a b d
+formed_reader name words make form r (a ∷ b ∷ d ∷ f ∷ rest) e = no_line e
 
 mode_reader : (name : Text) (words : List Rule) (make : List Row → ModeWord → Text → Text → Line)
     → ((a b d : Text) → Reads (by name words (λ rows. mode_and_two (make rows))) (a ∷ b ∷ d ∷ []))
@@ -236,6 +248,10 @@ list_row = by (codes "list")
     (one_value ++ any_texts ∷ flag (codes "csv") ∷ flag (codes "dates") ∷ choice_words)
     (λ rows. one_and_texts (Listing (form_of rows) (choice_of rows)))
 
+abbrev pub board_row : Command
+board_row = by (codes "board") (three_values ++ board_words)
+    (λ rows. formed_three Board (board_form_of rows))
+
 abbrev pub calendar_row : Command
 calendar_row = by (codes "calendar") (one_value ++ several_texts ∷ choice_words)
     (λ rows. one_and_several (Calendar (choice_of rows)))
@@ -279,6 +295,10 @@ pub list_read : IsReader list_row
 unfolding clap_on_literals
 list_read = texts_reader list_row.name list_row.words (λ rows. Listing (form_of rows) (choice_of rows))
     (λ a. (refl, record { enter = λ t rest. refl; first = λ t u. refl; later = λ x seen t u. refl }))
+
+pub board_read : IsReader board_row
+unfolding clap_on_literals
+board_read = formed_reader board_row.name board_row.words Board board_form_of (λ a b d. refl)
 
 pub calendar_read : IsReader calendar_row
 unfolding clap_on_literals
@@ -327,7 +347,7 @@ readers =
     ∷ with_several (codes "show") Show
     ∷ with_several (codes "history") History
     ∷ record { row = list_row; reads = list_read }
-    ∷ with_three (codes "board") Board
+    ∷ record { row = board_row; reads = board_read }
     ∷ record { row = calendar_row; reads = calendar_read }
     ∷ with_two (codes "diff") Diff
     ∷ record { row = command (codes "publish") four_values (four Publish); reads = four_plain (codes "publish") Publish }

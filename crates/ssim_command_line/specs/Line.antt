@@ -1,11 +1,15 @@
 -- The command lines of the program: the table of its commands.
 use Rattle.std.specs.Prelude.{◌≡◌, ◌==◌, ℕ, Bool, true, false, not, List, [], ◌∷◌, ◌++◌, Option, None}
 use Rattle.std.specs.Prelude.{Some, codes, if◌then◌else◌, unwrap_or, flat_map, map, option_map}
+use Rattle.std.specs.Prelude.{◌+◌, ◌-◌, ◌*◌, ◌&&◌, nat_le}
 use Rattle.std.specs.List.{list_all}
 use Rattle.std.specs.Option.{option_map_or}
 use Rattle.std.specs.Str.{bytes_eq}
 use Rattle.clap.specs.Words.{Row, Rule, all_of, first_of, new_rule}
 use Rattle.clap.specs.declared.builder.action.ArgAction.TheVariants.{Append, SetTrue}
+use Rattle.ssim_command_line.specs.declared.board_form.BoardForm.{BoardForm}
+use Rattle.ssim_command_line.specs.declared.board_form.Direction.{Direction}
+use Rattle.ssim_command_line.specs.declared.board_form.Direction.TheVariants.{Departures, Arrivals}
 use Rattle.ssim_command_line.specs.declared.command_line.ChoiceWords.{ChoiceWords}
 use Rattle.ssim_command_line.specs.declared.command_line.ListForm.{ListForm}
 use Rattle.ssim_command_line.specs.declared.command_line.ModeWord.{ModeWord}
@@ -45,7 +49,7 @@ pub data Line : Type 0 where
   Withdraw : (desk out : Text) (references : List Text) → Line
   Show : (file flight : Text) (words : List Text) → Line
   History : (file flight : Text) (words : List Text) → Line
-  Board : (file station date : Text) → Line
+  Board : (form : BoardForm) (file station date : Text) → Line
   Listing : (form : ListForm) (choice : ChoiceTexts) (file : Text) (flights : List Text) → Line
   Calendar : (choice : ChoiceTexts) (file : Text) (flights : List Text) → Line
   Page : (from : Option Text) (file : Text) → Line
@@ -94,7 +98,7 @@ line_of (request.Show file flight words) =
     Show file.now flight.now (map (λ t. t.now) words.items)
 line_of (request.History file flight words) =
     History file.now flight.now (map (λ t. t.now) words.items)
-line_of (request.Board file station date) = Board file.now station.now date.now
+line_of (request.Board form file station date) = Board form file.now station.now date.now
 line_of (request.List form choice file flights) =
     Listing form (choice_line choice) file.now (map (λ t. t.now) flights.items)
 line_of (request.Calendar choice file flights) =
@@ -177,6 +181,44 @@ mode_of word =
     else if bytes_eq word (codes "local") then Some Local
     else None
 
+-- whether a byte is a digit
+abbrev pub is_digit : ℕ → Bool
+is_digit byte = nat_le 48 byte && nat_le byte 57
+
+-- the number that one to three digits are; 0 for any other word
+abbrev pub number_in : Text → ℕ
+number_in (a ∷ []) = a - 48
+number_in (a ∷ b ∷ []) = 10 * (a - 48) + (b - 48)
+number_in (a ∷ b ∷ d ∷ []) = 100 * (a - 48) + 10 * (b - 48) + (d - 48)
+number_in _ = 0
+
+-- the number of dates that the value of --days is: from 1 to 366, in at most three digits
+abbrev pub days_in : Text → Option ℕ
+days_in word =
+    if list_all is_digit word && (nat_le 1 (number_in word) && nat_le (number_in word) 366)
+    then Some (number_in word)
+    else None
+
+-- which lines --departures and --arrivals leave: not both
+abbrev pub only_of : Bool → Bool → Option (Option Direction)
+only_of false false = Some None
+only_of true false = Some (Some Departures)
+only_of false true = Some (Some Arrivals)
+only_of true true = None
+
+-- a number of dates, if --days is given, and the lines that are left
+abbrev pub form_with : Option Text → Option (Option Direction) → Option BoardForm
+form_with days None = None
+form_with None (Some only) = Some (record { days = None; only = only })
+form_with (Some word) (Some only) =
+    option_map (λ days. record { days = Some days; only = only }) (days_in word)
+
+-- how `board` prints, if its options say it
+abbrev pub board_form_of : List Row → Option BoardForm
+board_form_of rows =
+    form_with (first_of (codes "days") rows)
+    (only_of (is_given (codes "departures") rows) (is_given (codes "arrivals") rows))
+
 -- which flight dates the options choose
 abbrev pub choice_of : List Row → ChoiceTexts
 choice_of rows = record {
@@ -200,8 +242,14 @@ choice_words =
     optional (codes "from") ∷ optional (codes "to") ∷ repeated (codes "station")
     ∷ repeated (codes "aircraft") ∷ []
 
+-- the options of `board`
+abbrev pub board_words : List Rule
+board_words =
+    optional (codes "days") ∷ flag (codes "departures") ∷ flag (codes "arrivals") ∷ []
+
 -- ---- the line that values make: of as many as it names, or of those and the texts after them. One
--- of two may be missing, which is the first of them. A time mode is one of two words.
+-- of two may be missing, which is the first of them. A time mode is one of two words. The options of
+-- `board` may say no form.
 
 abbrev pub one : (Text → Line) → List Text → Option Line
 one make (a ∷ []) = Some (make a)
@@ -218,6 +266,11 @@ three make _ = None
 abbrev pub mode_and_two : (ModeWord → Text → Text → Line) → List Text → Option Line
 mode_and_two make (word ∷ a ∷ b ∷ []) = option_map (λ mode. make mode a b) (mode_of word)
 mode_and_two make _ = None
+
+abbrev pub formed_three : (BoardForm → Text → Text → Text → Line) → Option BoardForm → List Text
+    → Option Line
+formed_three make form (a ∷ b ∷ d ∷ []) = option_map (λ f. make f a b d) form
+formed_three make form _ = None
 
 abbrev pub four : (Text → Text → Text → Text → Line) → List Text → Option Line
 four make (a ∷ b ∷ d ∷ e ∷ []) = Some (make a b d e)
@@ -280,7 +333,11 @@ commands =
       words = one_value ++ any_texts ∷ flag (codes "csv") ∷ flag (codes "dates") ∷ choice_words;
       make = λ rows. one_and_texts (Listing (form_of rows) (choice_of rows));
     }
-    ∷ command (codes "board") three_values (three Board)
+    ∷ record {
+      name = codes "board";
+      words = three_values ++ board_words;
+      make = λ rows. formed_three Board (board_form_of rows);
+    }
     ∷ record {
       name = codes "calendar";
       words = one_value ++ several_texts ∷ choice_words;

@@ -8,6 +8,7 @@ ghost use Rattle.ssim_command_line.specs.Line.{span_line, span_of};
 ghost use Rattle.ssim_command_line.specs.Usage.{Names, line_at};
 ghost use Rattle.ssim_command_line.specs.clauses.Usage.{IsFaultOf};
 
+use crate::board_form::{BoardForm, board_form_of};
 use crate::command_name::{CommandName, command_named};
 use crate::program::program;
 use crate::table::{PLACES, commands};
@@ -130,8 +131,10 @@ pub enum Request<'a> {
         flight: &'a str,
         words: Vec<&'a str>,
     },
-    /// Print the departures and arrivals of a desk or a data set at a station on a local date.
+    /// Print the departures and arrivals of a desk or a data set at a station on a local date, or on
+    /// several dates.
     Board {
+        form: BoardForm,
         file: &'a str,
         station: &'a str,
         date: &'a str,
@@ -226,8 +229,8 @@ pub enum LineFault {
 
 /// The request with the values in its first fields, the texts after them in the next (one or more, if
 /// a `+` says so), and what the options say in the last ones; after `=` that takes memory. The first of two
-/// values may be missing, if a `?` says so. After a `:` is what reads the first value. Nothing, if the
-/// values are too few or too many, or that reads nothing.
+/// values may be missing, if a `?` says so. After a `:` is what reads the first value, and after `?:` what
+/// reads the options. Nothing, if the values are too few or too many, or one of these reads nothing.
 macro_rules! request {
     (($alloc:expr, $inner:expr, $values:expr) $name:ident($($field:ident),+)) => {
         match $values {
@@ -240,6 +243,16 @@ macro_rules! request {
         match $values {
             [$first, $($field),+] => match $of(*$first) {
                 Some($first) => Ok(Some(Request::$name { $first, $($field: *$field),+ })),
+                None => Ok(None),
+            },
+            _ => Ok(None),
+        }
+    };
+    (($alloc:expr, $inner:expr, $values:expr)
+        $name:ident($($field:ident),+; $form:ident?: $of:ident)) => {
+        match $values {
+            [$($field),+] => match $of($inner) {
+                Some($form) => Ok(Some(Request::$name { $($field: *$field,)+ $form })),
                 None => Ok(None),
             },
             _ => Ok(None),
@@ -345,7 +358,7 @@ fn values_in<'a>(alloc: Global, inner: &ArgMatches<'a>) -> Result<Vec<&'a str>, 
 
 /// The value of an option, if it is given.
 #[tactic(auto, using(crate::proofs::Rows::first_rows))]
-fn option_at<'a>(inner: &ArgMatches<'a>, name: &str) -> Option<&'a str>
+pub(crate) fn option_at<'a>(inner: &ArgMatches<'a>, name: &str) -> Option<&'a str>
     ensures { option_map (λ s. s.now) result ≡ first_of name.now (rows_of (found_of inner.now)) }
 {
     inner.get_str(name)
@@ -360,7 +373,7 @@ fn refused_of<'a>(inner: &ArgMatches<'a>) -> Option<&'a str>
 }
 
 /// Whether an option without a value is given.
-fn is_given(inner: &ArgMatches<'_>, name: &str) -> bool
+pub(crate) fn is_given(inner: &ArgMatches<'_>, name: &str) -> bool
     ensures { result ≡ is_given name.now (rows_of (found_of inner.now)) }
 {
     option_at(inner, name) == Some("true")

@@ -6,9 +6,11 @@
 //! missing. Nothing is wrong with the words of a request, and a fault is one of the words.
 #![tactic(auto)]
 
+mod board_form;
 mod command_line;
 mod command_name;
 mod program;
 mod table;
 
+pub use board_form::{BoardForm, Direction};
 pub use command_line::{ChoiceWords, LineFault, ListForm, ModeWord, Request, SpanWords, parse};

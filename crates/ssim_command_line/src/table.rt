@@ -267,7 +267,9 @@ With --from, --to, --station or --aircraft it is the list of 'select'.
 Exit status: 0; 1 if the file is refused, a word is no flight (6), station (3),
 aircraft type (25) or date (1), the airline is another one (41), or --from is
 after --to (43)."
-        "board" [First("FILE"), Second("STATION"), Third("DATE")] => Board(file, station, date)
+        "board" [First("FILE"), Second("STATION"), Third("DATE"), Valued("days", "N"),
+            Flag("departures"), Flag("arrivals")]
+            => Board(file, station, date; form?: board_form_of)
         "Print the departures and arrivals at a station on a local date"
         "\
 Example:
@@ -282,6 +284,9 @@ from DATE, if not 0:
   2230 dep Z7401    15JUN27 01 320 DXB 0640 +1
 Times are the aircraft's. A line ends in ' ?' if a date variation is neither a
 digit nor blank, or in UTC mode a UTC variation is blank: both count as 0.
+  ssimdesk board --days 7 --departures fdh.desk FDH 15JUN27
+prints the departures of a week, each date under a heading of station and date.
+Between two dates is an empty line. N is 1 to 366; no date is after 31DEC99.
 Exit status: 0, also with 'no flight'; 1 if the file is refused, STATION is no
 station (3), or DATE is no date (1)."
         "calendar" [First("FILE"), Several("FLIGHT"), Valued("from", "DATE"), Valued("to", "DATE"),
@@ -545,6 +550,9 @@ const WORDS: &[(Told, &str)] = &[
     ),
     (Id("dates"), "Print each date by itself, and no periods"),
     (Id("not-acted"), "Print only what did not act on a date"),
+    (Id("days"), "Print N dates, each under a heading"),
+    (Id("departures"), "Print the departures alone"),
+    (Id("arrivals"), "Print the arrivals alone"),
     (Id("from"), "The first date of origin"),
     (Id("to"), "The last date of origin"),
     (Id("station"), "A station of a leg, such as ZRH"),

@@ -37,8 +37,6 @@ use Rattle.ssim_schedule.specs.FlightPieces.{in_order}
 use Rattle.ssim_desk.specs.DateSteps.{steps_on}
 use Rattle.ssim_desk.specs.Desk.{days_of_desk, entry_lines}
 use Rattle.ssim_desk.specs.Meaning.{found_by, left_by}
-use Rattle.ssim_board.specs.InOrder.{board_of}
-use Rattle.ssim_board.specs.Lines.{board_lines}
 use Rattle.ssim_board.specs.declared.board.Board.{Board as StationBoard}
 use Rattle.ssim_difference.specs.Lines.{difference_lines}
 use Rattle.ssim_outbox.specs.Comparable.{RefusesCarriers}
@@ -46,6 +44,7 @@ use Rattle.ssim_outbox.specs.declared.fault.OutboxFault.{OutboxFault}
 use Rattle.ssim_command_line.specs.Line.{Text, Texts, Withdraw, Show, History, Board, Diff}
 use Rattle.ssim_command_line.specs.Line.{Check, Findings, Export, Page}
 use Rattle.ssim_command_line.specs.Line.{Problems as ProblemsOf, Tidy}
+use Rattle.ssim_command_line.specs.declared.board_form.BoardForm.{BoardForm}
 use Rattle.ssim_program.specs.Acts.{Act, Print, printed_by, prints}
 use Rattle.ssim_program.specs.Answer.{Answer, Finds, Gives, OneOr, OrElse, Require, ◌>>=◌}
 use Rattle.ssim_program.specs.Answers.{compared, desk_page}
@@ -61,6 +60,7 @@ use Rattle.ssim_program.specs.Messages.{messages_on}
 use Rattle.ssim_program.specs.Offices.{IsSameFile}
 use Rattle.ssim_program.specs.Timetables.{HasCarrier, carrier_of, shown_in, timetable_in}
 use Rattle.ssim_program.specs.Withdrawing.{Withdraws}
+use Rattle.ssim_program.specs.print.Board.{printed_board}
 use Rattle.ssim_program.specs.print.PrintedLine.{printed_text}
 use Rattle.ssim_program.specs.print.Refusal.{IsMemory, refusal_number}
 use Rattle.ssim_program.specs.print.Blocks.{blocks}
@@ -303,24 +303,23 @@ module _ (no_two : NoTwoDesks) where
 abbrev board_at : TimeMode → List ℕ → ℕ → StationBoard
 board_at mode station day = record { station = station; day = day; mode = mode }
 
-abbrev lines_on : List ℕ → DeskSeen → ℕ → CarrierFields → List ℕ
-lines_on station desk day carrier =
-    board_lines carrier.airline day
-    (board_of (board_at carrier.time_mode station day) (days_of_desk desk))
+abbrev lines_on : BoardForm → List ℕ → DeskSeen → ℕ → CarrierFields → List ℕ
+lines_on form station desk day carrier =
+    printed_board form carrier.airline (days_of_desk desk) (board_at carrier.time_mode station day)
 
-abbrev board_on : List ℕ → DeskSeen → ℕ → Answer (List ℕ)
-board_on station desk day = do
+abbrev board_on : BoardForm → List ℕ → DeskSeen → ℕ → Answer (List ℕ)
+board_on form station desk day = do
   carrier ← carrier_of desk.base.records
-  Gives (lines_on station desk day carrier)
+  Gives (lines_on form station desk day carrier)
 
-abbrev board_dated : Text → Text → DeskSeen → Unit {0} → Answer (List ℕ)
-board_dated station date desk here =
-    OrElse (typed_day date) (refused.Value value_fault.BadDate) >>= board_on (typed station) desk
+abbrev board_dated : BoardForm → Text → Text → DeskSeen → Unit {0} → Answer (List ℕ)
+board_dated form station date desk here =
+    OrElse (typed_day date) (refused.Value value_fault.BadDate) >>= board_on form (typed station) desk
 
-abbrev board_of_desk : Text → Text → DeskSeen → Answer (List ℕ)
-board_of_desk station date desk =
+abbrev board_of_desk : BoardForm → Text → Text → DeskSeen → Answer (List ℕ)
+board_of_desk form station date desk =
     Require (is_station (typed station) ≡ true) (refused.Value value_fault.BadStation) >>= board_dated
-    station date desk
+    form station date desk
 
 abbrev page_of : DeskSeen → Answer (List ℕ)
 page_of desk = do
@@ -414,25 +413,26 @@ module _ (frames : FramesAreOne) (one_base : SameBytesSameBase) (no_two : NoTwoD
   history_alike = of_shown lines_of_history (λ desk other named that one both.
       λ i. lines_of_history (seen (one.0 i) (one.1 i)) (both i))
 
-  pub board_alike : (station date : Text) → DoesTheSame (λ file. Board file station date)
-  board_alike station date = of_timetables (board_of_desk station date)
+  pub board_alike : (form : BoardForm) (station date : Text)
+      → DoesTheSame (λ file. Board form file station date)
+  board_alike form station date = of_timetables (board_of_desk form station date)
       (λ desk other one. then_alike Nothing Equal
       (Require (is_station (typed station) ≡ true) (refused.Value value_fault.BadStation))
       (Require (is_station (typed station) ≡ true) (refused.Value value_fault.BadStation))
-      (board_dated station date desk) (board_dated station date other)
+      (board_dated form station date desk) (board_dated form station date other)
       (require_alike (is_station (typed station) ≡ true) (refused.Value value_fault.BadStation))
       (λ x y both. then_alike Equal Equal (OrElse (typed_day date) (refused.Value value_fault.BadDate))
-      (OrElse (typed_day date) (refused.Value value_fault.BadDate)) (board_on (typed station) desk)
-      (board_on (typed station) other)
+      (OrElse (typed_day date) (refused.Value value_fault.BadDate)) (board_on form (typed station) desk)
+      (board_on form (typed station) other)
       (or_else_alike (typed_day date) (refused.Value value_fault.BadDate))
       (λ day that same_day. then_alike Equal Equal (carrier_of desk.base.records)
       (carrier_of other.base.records)
-      (λ carrier. Gives (lines_on (typed station) desk day carrier))
-      (λ carrier. Gives (lines_on (typed station) other that carrier))
+      (λ carrier. Gives (lines_on form (typed station) desk day carrier))
+      (λ carrier. Gives (lines_on form (typed station) other that carrier))
       (carrier_alike desk.base.records other.base.records (records_same desk other one))
-      (λ carrier those same_carrier. gives_alike (lines_on (typed station) desk day carrier)
-      (lines_on (typed station) other that those)
-      (λ i. lines_on (typed station) (seen (one.0 i) (one.1 i)) (same_day i)
+      (λ carrier those same_carrier. gives_alike (lines_on form (typed station) desk day carrier)
+      (lines_on form (typed station) other that those)
+      (λ i. lines_on form (typed station) (seen (one.0 i) (one.1 i)) (same_day i)
       (same_carrier i))))))
 
   pub page_alike : DoesTheSame (Page None)

@@ -205,7 +205,7 @@ module _ (old new : Files) (acts done later : List Act) (split : acts ≡ done +
       looks _ old new acts done later split left (ap kept_by are)
   of_line (line.History desk flight words) (bytes, is, are) =
       looks _ old new acts done later split left (ap kept_by are)
-  of_line (line.Board file station date) (bytes, is, are) =
+  of_line (line.Board form file station date) (bytes, is, are) =
       looks _ old new acts done later split left (ap kept_by are)
   of_line (line.Listing form words file flights) (bytes, is, are) =
       looks _ old new acts done later split left (ap kept_by are)

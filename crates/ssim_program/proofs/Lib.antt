@@ -45,6 +45,7 @@ pub mod ChosenDates
 pub mod SpanParts
 pub mod EqualSpans
 pub mod BlockLines
+pub mod BoardDates
 pub mod FlightAlone
 pub mod WordsOn
 pub mod Verdict

@@ -16,8 +16,6 @@ use Rattle.ssim_held.specs.File.{desk_file}
 use Rattle.ssim_held.specs.declared.fault.DeskFault.TheVariants as desk_fault
 use Rattle.ssim_desk.specs.DateSteps.{steps_on}
 use Rattle.ssim_desk.specs.Desk.{days_of_desk, finding_lines, timetable_of}
-use Rattle.ssim_board.specs.InOrder.{board_of}
-use Rattle.ssim_board.specs.Lines.{board_lines}
 use Rattle.ssim_difference.specs.Differences as differing
 use Rattle.ssim_difference.specs.Lines.{difference_lines}
 use Rattle.ssim_outbox.specs.Comparable.{RefusesCarriers}
@@ -32,6 +30,7 @@ use Rattle.ssim_command_line.specs.Line.{Carry, ChoiceTexts, SpanTexts}
 use Rattle.ssim_command_line.specs.Line.{Receive, Texts, Show, History, Calendar, Findings, Export}
 use Rattle.ssim_command_line.specs.Line.{Rehearse, Explain, Page, Board, Diff, Publish, Listing}
 use Rattle.ssim_command_line.specs.Line.{Convert, Select, Split}
+use Rattle.ssim_command_line.specs.declared.board_form.BoardForm.{BoardForm}
 use Rattle.ssim_command_line.specs.declared.command_line.ListForm.{ListForm}
 use Rattle.ssim_command_line.specs.declared.command_line.ModeWord.{ModeWord}
 use Rattle.ssim_program.specs.Acts.{Act, Print, Keep, prints, prints_then}
@@ -54,6 +53,7 @@ use Rattle.ssim_program.specs.Timetables.{carrier_of, shown_in, timetable_in}
 use Rattle.ssim_program.specs.Withdrawing.{withdrawn}
 use Rattle.ssim_program.specs.rehearse.Rehearsal.{RehearsesFiles, RefusesLines}
 use Rattle.ssim_program.specs.print.Blocks.{blocks}
+use Rattle.ssim_program.specs.print.Board.{printed_board}
 use Rattle.ssim_program.specs.print.Calendar.{calendars}
 use Rattle.ssim_program.specs.print.Listing.{printed_list}
 use Rattle.ssim_program.specs.print.Page.{message_articles}
@@ -203,16 +203,16 @@ convert files mode file out = do
   made ← converted (mode_named mode) desk
   Known (ReadsAsItself made.0) (Keep out made.0 ∷ Print made.1 ∷ [])
 
--- The departures and arrivals at a station on a local date. The airline and the time mode are those
--- of the carrier record.
-abbrev pub board : Option Files → Text → Text → Text → Answer (List ℕ)
-board files file station date = do
+-- The departures and arrivals at a station on a local date, or from one on. The airline and the time
+-- mode are those of the carrier record.
+abbrev pub board : Option Files → BoardForm → Text → Text → Text → Answer (List ℕ)
+board files form file station date = do
   desk ← timetable_in files file
   here ← Require (is_station (typed station) ≡ true) (refused.Value value_fault.BadStation)
   day ← OrElse (typed_day date) (refused.Value value_fault.BadDate)
   carrier ← carrier_of desk.base.records
-  Gives (board_lines carrier.airline day (board_of
-      (record { station = typed station; day = day; mode = carrier.time_mode }) (days_of_desk desk)))
+  Gives (printed_board form carrier.airline (days_of_desk desk)
+      (record { station = typed station; day = day; mode = carrier.time_mode }))
 
 -- the flights with the pieces of their dates, by number and then by suffix: all that fly on some
 -- date if none is named, or else those that are named, each once
@@ -339,7 +339,7 @@ answers (Withdraw file out references) files = withdraw files file out reference
 answers (Texts span file flights) files = prints (texts files span file flights)
 answers (Show file flight words) files = prints (show files file flight words)
 answers (History file flight words) files = prints (history files file flight words)
-answers (Board file station date) files = prints (board files file station date)
+answers (Board form file station date) files = prints (board files form file station date)
 answers (Listing form words file flights) files = prints (list files form words file flights)
 answers (Calendar words file flights) files = prints (calendar files words file flights)
 answers (Page from file) files = prints (page files from file)

@@ -5,6 +5,7 @@ pub mod PrintedLine
 pub mod Shown
 pub mod Listing
 pub mod Blocks
+pub mod Board
 pub mod Calendar
 pub mod Paper
 pub mod Page

@@ -113,10 +113,11 @@ pub(crate) fn make<'r, S: Store>(
             words,
         } => lines(history::history(alloc, file, flight, words, store)),
         Request::Board {
+            form,
             file,
             station,
             date,
-        } => lines(board::board(alloc, file, station, date, store)),
+        } => lines(board::board(alloc, *form, file, station, date, store)),
         Request::List {
             form,
             choice,

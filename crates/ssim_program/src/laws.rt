@@ -5,6 +5,7 @@ ghost use Rattle.ssim_command_line.specs.Line.{Board, Calendar, Carry, Check, Ch
 ghost use Rattle.ssim_command_line.specs.Line.{Convert, Export, Findings, Select, SpanTexts};
 ghost use Rattle.ssim_command_line.specs.Line.{History, Listing, Page, Problems, Show, Text, Texts};
 ghost use Rattle.ssim_command_line.specs.Line.{Tidy, Withdraw};
+ghost use Rattle.ssim_command_line.specs.declared.board_form.BoardForm.{BoardForm};
 ghost use Rattle.ssim_command_line.specs.declared.command_line.ListForm.{ListForm};
 ghost use Rattle.ssim_command_line.specs.declared.command_line.ModeWord.{ModeWord};
 ghost use Rattle.ssim_program.specs.Again.{TidiesOnce};
@@ -102,7 +103,8 @@ pub fn equal_timetables_do_the_same()
         → DoesTheSame (λ file. Show file flight words) }
     ensures history { (flight : Text) (words : List Text)
         → DoesTheSame (λ file. History file flight words) }
-    ensures board { (station date : Text) → DoesTheSame (λ file. Board file station date) }
+    ensures board { (form : BoardForm) (station date : Text)
+        → DoesTheSame (λ file. Board form file station date) }
     ensures list { (form : ListForm) (words : ChoiceTexts) (flights : List Text)
         → DoesTheSame (λ file. Listing form words file flights) }
     ensures calendar { (words : ChoiceTexts) (flights : List Text)

@@ -1,5 +1,6 @@
 -- Small examples of times and boards, checked by computation.
 use Rattle.std.specs.Prelude.{◌≡◌, ℕ, true, false, List, [], ◌∷◌, ◌++◌, replicate, codes, refl}
+use Rattle.std.specs.Prelude.{Some, None}
 use Rattle.std.specs.Fmt.{decimal}
 use Rattle.ssim_values.specs.Calendar.{day_of_month, month_of, year_of}
 use Rattle.ssim_values.specs.Clock.{clock_of}
@@ -10,6 +11,7 @@ use Rattle.ssim_values.specs.declared.time_mode.TimeMode.TheVariants.{Utc, Local
 use Rattle.ssim_records.specs.Columns.{utc_variation_of}
 use Rattle.ssim_base.specs.Timetable.{LegValue}
 use Rattle.ssim_board.specs.InOrder.{by_time, minute_count}
+use Rattle.ssim_board.specs.Kinds.{of_kind}
 use Rattle.ssim_board.specs.LegTimes.{arrival_time, departure_time, is_uncertain}
 use Rattle.ssim_board.specs.LocalTime.{moment_on}
 use Rattle.ssim_board.specs.Lines.{board_lines, shift_text}
@@ -137,6 +139,20 @@ their_order : by_time (movement fdh (flight 1) 10026 overnight Arrival
     ∷ movement fdh (flight 5) 10027 round Arrival ∷ []
 unfolding by_time minute_count movement departure_time arrival_time clock_of
 their_order = refl
+
+-- the departures alone, and the arrivals alone
+one_kind : (let all = movement fdh (flight 5) 10027 round Departure
+    ∷ movement fdh (flight 1) 10026 overnight Arrival
+    ∷ movement fdh (flight 5) 10027 round Arrival ∷ [] in
+    of_kind (Some Departure) all ∷ of_kind (Some Arrival) all ∷ of_kind None all ∷ [])
+    ≡ (movement fdh (flight 5) 10027 round Departure ∷ [])
+    ∷ (movement fdh (flight 1) 10026 overnight Arrival
+    ∷ movement fdh (flight 5) 10027 round Arrival ∷ [])
+    ∷ (movement fdh (flight 5) 10027 round Departure
+    ∷ movement fdh (flight 1) 10026 overnight Arrival
+    ∷ movement fdh (flight 5) 10027 round Arrival ∷ []) ∷ []
+unfolding movement
+one_kind = refl
 
 -- ---- lines
 

@@ -142,7 +142,8 @@ pub returns-in-Board-clause-answer : goal.returns-in-Board-clause-answer
 returns-in-Board-clause-answer g c = let old = g.S.Store.files c.args.store.now in
     made_of _ _ _ _ _ c.in-Board.is
     (lines_of g.S.Hold.Hold.file old
-    (answer.board old c.in-Board.file.now c.in-Board.station.now c.in-Board.date.now)
+    (answer.board old c.in-Board.form c.in-Board.file.now c.in-Board.station.now
+    c.in-Board.date.now)
     c.board.result c.lines-in-Board.result c.board.ensures.answer c.lines-in-Board.ensures)
 
 pub returns-in-List-clause-answer : goal.returns-in-List-clause-answer
