@@ -1,11 +1,14 @@
-"""`list` and `calendar` with a choice of flight dates, beside a plain list of flight dates and beside `select`; and several flights of a command.
+"""`list` and `calendar` with a choice of flight dates, beside a plain list of flight dates and beside `select`; several flights of a command; and
+boards of several dates.
 
 Each case has a data set or a desk, as in `parts`, and choices of its flights, dates, stations and aircraft types. Of the dates that `tidy` or
 `export` writes (flight_dates.py) each is taken or left by itself. `list`, in each of its forms, and `calendar` have to print what follows from
 those that are taken; and what they print of the data set that `select` writes with the same choice, byte for byte. In a case of `words` some
 words are invalid, and the refusal is that of the first of them by kind. In a case of `several` `show` of several flights has to print what
 follows from their dates, and `show`, `history` and `calendar` what they print of each flight alone. Of a desk `findings` of some flights, and
-of what did not act, has to print those lines of all findings.
+of what did not act, has to print those lines of all findings. In a case of `boards` `board --days N`, `--departures` and `--arrivals` have to
+print what follows from the flight dates; each date what `board` prints of it alone; and departures and arrivals together each line of the
+board, in its order.
 
 A case of `spans` has a desk with some messages, whose dates the model of `carry` finds in the desk file. With a span `findings` has to count what
 `history` says of each of these dates, and `texts` has to print the messages that follow from them. `findings` to a date and from the next one
@@ -20,10 +23,10 @@ import messages
 import parts
 import small
 from chapter7 import DAY, date, dates_of
-from flight_dates import Timetable, calendar, listed, listed_dates, rows
+from flight_dates import Timetable, board, calendar, listed, listed_dates, rows
 from room import Answer, said
 
-KINDS = ["choice", "choice", "choice", "several", "words", "spans", "spans", "span words"]
+KINDS = ["choice", "choice", "choice", "several", "boards", "words", "spans", "spans", "span words"]
 REASONS = ["acted", "absent", "present", "leg", "station"]
 # The most dates that are looked at one by one.
 MANY = 60
@@ -259,6 +262,91 @@ def of_span_words(rng, room):
         yield " ".join(words), room(*words), Answer(1, b"", f"refused {fault}\n")
 
 
+# ---- boards
+
+FIRST, LAST = datetime.date(2000, 1, 1), datetime.date(2099, 12, 31)
+DIRECTIONS = {(): ("dep", "arr"), ("--departures",): ("dep",), ("--arrivals",): ("arr",)}
+NO_COMMAND = Answer(2, b"", "error: the words name no command\n")
+NO_NUMBERS = ["0", "000", "367", "999", "1000", "0007", "", "+7", " 7", "7 ", "-1", "seven", "7.0", "1e2"]
+
+
+def printed(answer):
+    """The lines that a command printed."""
+    return answer.out.decode("ascii").splitlines()
+
+
+def of_kinds(lines, kinds):
+    """The lines of a board that are of these kinds, or `no flight`."""
+    return [line for line in lines if line.split()[1] in kinds] or ["no flight"]
+
+
+def dates_from(day, count):
+    """As many dates from one on, but none after the last of the calendar."""
+    return [day + place * DAY for place in range(min(count, (LAST - day).days + 1))]
+
+
+def boards(table, station, day, count, kinds):
+    """The lines of `board`: of one date, or with a number of dates of each under a heading."""
+    if count is None:
+        return of_kinds(board(table, station, day), kinds)
+    return blocks([[f"{station} {date(on)}", *of_kinds(board(table, station, on), kinds)] for on in dates_from(day, count)])
+
+
+def mixed(rng, options, values):
+    """The words of a command whose options are anywhere among the values, which keep their order."""
+    found = [[value] for value in values]
+    for option in options:
+        found.insert(rng.randrange(len(found) + 1), option)
+    return [word for words in found for word in words]
+
+
+def a_place(rng, table):
+    """A station and a local date: mostly of a flight or near it, or near an end of the calendar."""
+    legs = [(day, leg) for days in table.flights.values() for day, found in days.items() for leg in found]
+    if not legs:
+        return "ZRH", datetime.date(2025, 7, 1)
+    day, leg = rng.choice(legs)
+    day = rng.choice([day, day, day, day, LAST - 3 * DAY, FIRST]) + rng.choice([0, 0, 1, -1, 3]) * DAY
+    column = rng.choice([37, 55])
+    return leg.at(column, column + 2), min(max(day, FIRST), LAST)
+
+
+def of_board(rng, room, table):
+    """What is compared of a station and a date."""
+    (station, day), count = a_place(rng, table), rng.choice([None, 1, 2, 3, 7, 30, 366])
+    spelled = [["--days", rng.choice([str(count), f"{count:03}"])]] if count else []
+    answers = {}
+    for option, kinds in DIRECTIONS.items():
+        words = mixed(rng, [*spelled, *([word] for word in option)], ["FILE", station, date(day)])
+        answers[option], wanted = room("board", *words), boards(table, station, day, count, kinds)
+        room.counts["a board without lines" if set(wanted[-1:]) == {"no flight"} else "a board with lines"] += 1
+        yield f"board {words}", answers[option], said(wanted)
+    for option in DIRECTIONS if count and count <= 7 else ():
+        alone = [[f"{station} {date(on)}", *printed(room("board", *option, "FILE", station, date(on)))] for on in dates_from(day, count)]
+        yield f"{count} dates of {station} {day} {option}", answers[option], said(blocks(alone))
+    if not count:
+        whole, departures, arrivals = ([line for line in printed(answer) if line != "no flight"] for answer in answers.values())
+        yield f"directions of {station} {day}", sorted(departures + arrivals), sorted(whole)
+        for lines, kind in (departures, "dep"), (arrivals, "arr"):
+            yield f"order of {kind} {station} {day}", lines, [line for line in whole if line.split()[1] == kind]
+
+
+def of_board_words(rng, room, table):
+    """What is compared of words that are no number of dates, no station or no date, or of both directions."""
+    station, day = a_place(rng, table)
+    for count in rng.sample(NO_NUMBERS, k=4):
+        yield f"board --days={count}", room("board", f"--days={count}", "FILE", station, date(day)).status, 2
+    both = rng.sample(["--departures", "--arrivals"], k=2)
+    for name in "FILE", "MISSING":
+        yield f"board {both} {name}", room("board", *both, name, station, date(day)), NO_COMMAND
+    for option in ["--departures"], ["--arrivals"], ["--days", "7"]:
+        yield f"board {option} twice", room("board", *option, *option, "FILE", station, date(day)).status, 2
+        words = [rng.choice([station, "ZR", "ZRHX"]), rng.choice([date(day), "32JAN27", "29FEB27"])]
+        fault = "3 BadStation" if words[0] != station else "1 BadDate" if words[1] != date(day) else None
+        if fault:
+            yield f"board {option} {words}", room("board", *option, "FILE", *words), Answer(1, b"", f"refused {fault}\n")
+
+
 def compared(rng, room, kind):
     if kind == "spans":
         yield from of_spans(rng, room)
@@ -276,6 +364,11 @@ def compared(rng, room, kind):
     table = Timetable(whole)
     if kind == "several":
         yield from of_several(rng, room, table)
+        return
+    if kind == "boards":
+        for _ in range(3):
+            yield from of_board(rng, room, table)
+        yield from of_board_words(rng, room, table)
         return
     for _ in range(3):
         yield from of_choice(rng, room, table, parts.choice(rng, table))

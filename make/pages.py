@@ -19,7 +19,7 @@ FISH = "ssimdesk.fish"
 DATE = "2026-11-30"
 
 # Values that are not names of files.
-NO_FILES = {"FLIGHT", "DATE", "STATION", "TYPE", "REFERENCE"}
+NO_FILES = {"FLIGHT", "DATE", "STATION", "TYPE", "REFERENCE", "N"}
 
 # Values of options that may come several times.
 SEVERAL = {"STATION", "TYPE"}

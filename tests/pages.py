@@ -38,6 +38,8 @@ COMPLETED = [
     ("ssimdesk show a.ssim Z7341 Z710", "Z7101 Z7102 | FDH"),
     ("ssimdesk board a.ssim H", "HAM | FDH Z7101"),
     ("ssimdesk board a.ssim HAM a", "| season.ssim"),
+    ("ssimdesk board --dep", "--departures"),
+    ("ssimdesk board --days 7 a.ssim H", "HAM | FDH Z7101"),
     ("ssimdesk convert lo", "local"),
     (r"ssimdesk convert utc a\ s", r"a\ season.ssim"),
 ]

@@ -55,6 +55,7 @@ COMMANDS = [
     ("history", ["history", "desk", "LX544", "01JUL25"], None),
     ("history of flights", ["history", "desk", "LX540", "LX544", "01JUL25"], None),
     ("board", ["board", "desk", "ZRH", "01JUL25"], None),
+    ("board of dates", ["board", "--days", "3", "--departures", "desk", "ZRH", "01JUL25"], None),
     ("list", ["list", "desk", "LX544", "LX540"], None),
     ("list --dates", ["list", "--dates", "desk"], None),
     ("list --csv", ["list", "--csv", "desk"], None),
