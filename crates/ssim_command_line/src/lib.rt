@@ -7,10 +7,12 @@
 #![tactic(auto)]
 
 mod board_form;
+mod command_help;
 mod command_line;
 mod command_name;
 mod program;
 mod table;
+mod word_help;
 
 pub use board_form::{BoardForm, Direction};
 pub use command_line::{ChoiceWords, LineFault, ListForm, ModeWord, Request, SpanWords, parse};

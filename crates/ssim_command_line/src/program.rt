@@ -6,7 +6,9 @@ ghost use Rattle.ssim_command_line.specs.Line.{needed};
 ghost use Rattle.ssim_command_line.specs.Usage.{whole_program};
 ghost use Rattle.ssim_command_line.specs.internal.Table.{IsLeaf, rule_of_word, shape_of_row};
 
-use crate::table::{ABOUT, COMMANDS, CommandRow, EXAMPLES, Word, about_word, help_of};
+use crate::command_help::help_of;
+use crate::table::{ABOUT, COMMANDS, CommandRow, EXAMPLES, Word};
+use crate::word_help::about_word;
 use clap::{Arg, ArgAction, Command};
 use std::alloc::{AllocError, Global};
 
