@@ -276,7 +276,7 @@ def is_repeated(page):
 
 def options_of(page):
     """Each option of a command: its name, what its value is called, and what it does."""
-    found = [(re.search(r"--([a-z]+)(?: <([A-Z]+)>)?", option), text) for option, text in page.options]
+    found = [(re.search(r"--([a-z-]+)(?: <([A-Z]+)>)?", option), text) for option, text in page.options]
     return [(match.group(1), match.group(2), text) for match, text in found]
 
 
