@@ -25,8 +25,9 @@ use Rattle.ssim_command_line.specs.Line.{Text}
 use Rattle.ssim_program.specs.Acts.{Act, Acts, Print, Keep, Stop}
 use Rattle.ssim_program.specs.Answer.{Answer, Gives, ◌>>=◌}
 use Rattle.ssim_program.specs.Files.{Files, IsOpened, with_kept}
+use Rattle.ssim_program.specs.Made.{IsMissingWithin}
 use Rattle.ssim_program.specs.Places.{place_in}
-use Rattle.ssim_program.specs.Splitting.{IsNotWhole, KeptAs, RefusedAs, RefusesRead, Section}
+use Rattle.ssim_program.specs.Splitting.{KeptAs, RefusedAs, RefusesRead, Section}
 use Rattle.ssim_program.specs.Splitting.{SectionFate, acts_of, blocks_in, count_line, end_in, fate_of}
 use Rattle.ssim_program.specs.Splitting.{header_in}
 use Rattle.ssim_program.specs.Splitting.{is_kept, items_in, sections_of, split, split_each, split_limit}
@@ -223,7 +224,7 @@ opened-seen (Some all) name left is = is
 
 -- a file that is not read to its end has more bytes than the limit
 not-whole : (files : Option Files) (name : Text) (left : Option (List ℕ)) (blocks : List Block)
-    → IsOpened files name left → HasBlocks split_limit left blocks Unread → IsNotWhole files name
+    → IsOpened files name left → HasBlocks split_limit left blocks Unread → IsMissingWithin split_limit files name
 not-whole None name left blocks opened has = tt
 not-whole (Some all) name left blocks (bytes, is, left-is) has =
     subst (λ (o : Option (List ℕ)). IfSome o (λ b. split_limit < length b)) (sym is)
@@ -304,7 +305,7 @@ pub record IsAt (files : Option Files) (name prefix : Text) (start now : World) 
       → Does (split_each files name prefix end' now.files done state.before sections) now after r
       → Does (split files name prefix) start after r
   pub whole : (sections : List SectionBlocks) → AreLeft state known sections Unread
-      → IsNotWhole files name
+      → IsMissingWithin split_limit files name
 
 -- before the first section
 pub at-first : (name prefix : Text) (left left' : Option (List ℕ)) (w : World) (new : SectionsState)

@@ -103,15 +103,24 @@ abbrev pub FindsProblems : Option Files → Text → Problems → Type 0
 FindsProblems files name problems =
     (left : Option (List ℕ)) × IsOpened files name left × HasProblems file_limit left problems
 
--- there is no file of this name within the limit, if the contract can see the files
-abbrev pub IsMissing : Option Files → Text → Type 0
-IsMissing files name =
-    IfSome files (λ all. IfSome (file_of all name) (λ bytes. file_limit < length bytes))
+-- there is no file of this name with at most so many bytes, if the contract can see the files
+abbrev pub IsMissingWithin : ℕ → Option Files → Text → Type 0
+IsMissingWithin limit files name =
+    IfSome files (λ all. IfSome (file_of all name) (λ bytes. limit < length bytes))
 
--- why a file is not loaded: memory ran out, or there is no such file within the limit
+-- there is no file of this name within the limit
+abbrev pub IsMissing : Option Files → Text → Type 0
+IsMissing files name = IsMissingWithin file_limit files name
+
+-- why a file is not read: memory ran out, or there is none with at most so many bytes
+abbrev pub RefusesWithin : ℕ → Option Files → Text → Refusal → Type 0
+RefusesWithin limit files name refusal =
+    IsMemory refusal
+    ⊎ (IsOfFile 91 (codes "File") name refusal × IsMissingWithin limit files name)
+
+-- why a file is not loaded
 abbrev pub RefusesLoad : Option Files → Text → Refusal → Type 0
-RefusesLoad files name refusal =
-    IsMemory refusal ⊎ (IsOfFile 91 (codes "File") name refusal × IsMissing files name)
+RefusesLoad files name refusal = RefusesWithin file_limit files name refusal
 
 -- why no data set is read from a file: the file is not loaded, or the data set is refused
 abbrev pub RefusesFile : Option Files → Text → Refusal → Type 0

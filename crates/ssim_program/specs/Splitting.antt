@@ -1,6 +1,6 @@
 -- A data set of several carriers, of which each section is kept as a data set or is refused.
 use Rattle.std.specs.Prelude.{◌≡◌, ◌⊎◌, ℕ, ◌+◌, ◌-◌, ◌<◌, Bool, true, false, if◌then◌else◌, zero, suc}
-use Rattle.std.specs.Prelude.{IfSome, List, [], ◌∷◌, ◌++◌, codes, length, map}
+use Rattle.std.specs.Prelude.{List, [], ◌∷◌, ◌++◌, codes, length, map}
 use Rattle.std.specs.Prelude.{Option, Some, None, Result, Ok, Err}
 use Rattle.std.specs.Fmt.{decimal}
 use Rattle.std.specs.List.{count_by, flat_map}
@@ -24,8 +24,8 @@ use Rattle.ssim_command_line.specs.Line.{Text}
 use Rattle.ssim_program.specs.Acts.{Act, Acts, Print, Keep, prints_then}
 use Rattle.ssim_program.specs.Answer.{Answer, Gives, ◌>>=◌}
 use Rattle.ssim_program.specs.Exports.{ReadsAsItself, export_in}
-use Rattle.ssim_program.specs.Files.{Files, IsOpened, file_of, with_kept}
-use Rattle.ssim_program.specs.Made.{note_line}
+use Rattle.ssim_program.specs.Files.{Files, IsOpened, with_kept}
+use Rattle.ssim_program.specs.Made.{RefusesWithin, note_line}
 use Rattle.ssim_program.specs.Places.{place_in}
 use Rattle.ssim_program.specs.print.Names.{printed_name}
 use Rattle.ssim_program.specs.print.Refusal.{IsMemory, IsOfFile, refusal_text}
@@ -39,15 +39,9 @@ use Rattle.ssim_program.specs.declared.refusal.Refusal.TheVariants as refused
 abbrev pub split_limit : ℕ
 split_limit = 1099511627776
 
--- the file of this name has more bytes, or there is none, if the contract can see the files
-abbrev pub IsNotWhole : Option Files → Text → Type 0
-IsNotWhole files name =
-    IfSome files (λ all. IfSome (file_of all name) (λ bytes. split_limit < length bytes))
-
--- why a file is not read: memory ran out, or there is no such file within the limit
+-- why the file is not read
 abbrev pub RefusesRead : Option Files → Text → Refusal → Type 0
-RefusesRead files name why =
-    IsMemory why ⊎ (IsOfFile 91 (codes "File") name why × IsNotWhole files name)
+RefusesRead files name why = RefusesWithin split_limit files name why
 
 -- the blocks of the file of this name, and how it ends
 abbrev pub blocks_in : Option Files → Text → Answer (List Block × FileEnd)

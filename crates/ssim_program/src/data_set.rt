@@ -10,7 +10,7 @@ ghost use Rattle.ssim_base.specs.declared.fault.BaseFault.TheVariants as base_fa
 ghost use Rattle.ssim_base.specs.declared.note.Note.{Note};
 ghost use Rattle.ssim_program.specs.Files.{Files, IsOpened};
 ghost use Rattle.ssim_program.specs.Made.{FindsProblems, HasFile, IsOfBytes, ReadsFile};
-ghost use Rattle.ssim_program.specs.Made.{RefusesFile, RefusesLoad, base_in, file_limit};
+ghost use Rattle.ssim_program.specs.Made.{RefusesFile, RefusesLoad, RefusesWithin, base_in, file_limit};
 ghost use Rattle.ssim_program.specs.internal.DataSet.{SumsFile, IsUnread};
 
 use crate::refusal::Refusal;
@@ -49,7 +49,8 @@ pub(crate) fn open_file<S: Store>(
 ) -> Result<S::File, Refusal>
     ensures opened { IfOk result
         (λ file. IsOpened (S.files store.old) name.now (S.File.state file).left) }
-    ensures refused { IfErr result (RefusesLoad (S.files store.old) name.now) }
+    ensures refused { (limit : ℕ)
+        → IfErr result (RefusesWithin limit (S.files store.old) name.now) }
     ensures same { S.files store.new ≡ S.files store.old }
     ensures counted { S.failures store.new ≡ S.failures store.old }
 {

@@ -5,8 +5,8 @@ ghost use Rattle.std.specs.List.{count_by};
 ghost use Rattle.ssim_parts.specs.clauses.Sections.{section_seen};
 ghost use Rattle.ssim_program.specs.Acts.{Print};
 ghost use Rattle.ssim_program.specs.Answer.{Gives};
-ghost use Rattle.ssim_program.specs.Files.{Files, IsOpened};
-ghost use Rattle.ssim_program.specs.Splitting.{RefusedAs, RefusesRead, count_line, fate_of, is_kept};
+ghost use Rattle.ssim_program.specs.Files.{Files};
+ghost use Rattle.ssim_program.specs.Splitting.{RefusedAs, count_line, fate_of, is_kept};
 ghost use Rattle.ssim_program.specs.Splitting.{is_of, name_of, refused_line, split};
 ghost use Rattle.ssim_program.specs.World.{Does, world};
 ghost use Rattle.ssim_program.specs.print.Refusal.{IsMemory};
@@ -14,13 +14,14 @@ ghost use Rattle.ssim_program.specs.internal.Splitting.{ActsAs, IsReadFault, Put
 ghost use Rattle.ssim_program.specs.internal.Splitting.{read_seen};
 
 use crate::content_kind::ContentKind;
+use crate::data_set::open_file;
 use crate::export::data_set_bytes;
 use crate::hold::{hold, keep_content};
 use crate::print::name::printed_name;
 use crate::print::printer::{Printer, print_all};
 use crate::print::section::{SetLine, count_line, kept_lines, refused_line};
 use crate::refusal::Refusal;
-use crate::store::{Store, StoreFault};
+use crate::store::Store;
 use ssim_base::BaseFault;
 use ssim_parts::{DataSetRead, Section, SectionReader};
 use ssim_records::RecordFault;
@@ -62,7 +63,7 @@ pub(crate) fn split_file<S: Store, W: Write>(
         (world (S.files store.old) (S.failures store.old) out.old)
         (world (S.files store.new) (S.failures store.new) out.new) result }
 {
-    let mut file = open_set(alloc, dataset, store)?;
+    let mut file = open_file(alloc, dataset, store)?;
     let mut sections = match SectionReader::new(alloc, &mut file, LIMIT) {
         Ok(sections) => sections,
         Err(fault) => return Err(refusal_of(alloc, dataset, fault)),
@@ -74,21 +75,6 @@ pub(crate) fn split_file<S: Store, W: Write>(
             Ok(None) => return print_counts(alloc, &done, out),
             Err(fault) => return Err(refusal_of(alloc, dataset, fault)),
         }
-    }
-}
-
-/// Opens the file of this name. Returns 91 if there is no such file.
-fn open_set<S: Store>(alloc: Global, name: &str, store: &mut S) -> Result<S::File, Refusal>
-    ensures opened { IfOk result
-        (λ file. IsOpened (S.files store.old) name.now (S.File.state file).left) }
-    ensures refused { IfErr result (RefusesRead (S.files store.old) name.now) }
-    ensures same { S.files store.new ≡ S.files store.old }
-    ensures counted { S.failures store.new ≡ S.failures store.old }
-{
-    match store.open(alloc, name) {
-        Ok(file) => Ok(file),
-        Err(StoreFault::Memory) => Err(Refusal::Memory),
-        Err(StoreFault::Fault) => Err(Refusal::of_file(alloc, name)),
     }
 }
 

@@ -6,7 +6,7 @@ use Rattle.ssim_parts.specs.clauses.Sections.{GivesSection, HasRest}
 use Rattle.ssim_parts.specs.declared.section.Section.{Section as Declared}
 use Rattle.ssim_program.specs.Acts.{Print}
 use Rattle.ssim_program.specs.Answer.{Gives}
-use Rattle.ssim_program.specs.Splitting.{Section, count_line, split}
+use Rattle.ssim_program.specs.Splitting.{Section, count_line, split, split_limit}
 use Rattle.ssim_program.specs.World.{Does, World, world}
 use Rattle.ssim_program.specs.declared.refusal.Refusal.{Refusal}
 use Rattle.ssim_program.proofs.Acting.{refuses, same_world}
@@ -24,10 +24,10 @@ returns-in_err-file g c =
     let why = c.in_err-file.field-0.0 in
     let is : c.from_residual.result ≡ Err why = search rules in
     let w = world files (g.S.Store.failures c.args.store.now) out in
-    let v = world (g.S.Store.files c.open_set.new.store) (g.S.Store.failures c.open_set.new.store) out in
+    let v = world (g.S.Store.files c.open_file.new.store) (g.S.Store.failures c.open_file.new.store) out in
     rw is (refuses (split files c.args.dataset.now c.args.prefix.now) w v why
-    (inl c.in_err-file.ensures.refused)
-    (same_world _ _ _ _ out c.open_set.ensures.same c.open_set.ensures.counted))
+    (inl (c.in_err-file.ensures.refused split_limit))
+    (same_world _ _ _ _ out c.open_file.ensures.same c.open_file.ensures.counted))
 
 pub returns-in-Err : goal.returns-in-Err
 returns-in-Err g c =
@@ -38,10 +38,10 @@ returns-in-Err g c =
     let before = state c.in_ok-file.file in
     let after = state c.new.new.reader in
     let w = world files (g.S.Store.failures c.args.store.now) out in
-    let v = world (g.S.Store.files c.open_set.new.store) (g.S.Store.failures c.open_set.new.store) out in
+    let v = world (g.S.Store.files c.open_file.new.store) (g.S.Store.failures c.open_file.new.store) out in
     subst (λ (x : World). Does (split files c.args.dataset.now c.args.prefix.now) w x
     (Err c.refusal_of.result))
-    (sym (same_world _ _ _ _ out c.open_set.ensures.same c.open_set.ensures.counted))
+    (sym (same_world _ _ _ _ out c.open_file.ensures.same c.open_file.ensures.counted))
     (refuses-file files c.args.dataset.now c.args.prefix.now before after c.in-Err.fault
     c.refusal_of.result w c.in_ok-file.ensures.opened
     (failures_of files state c.in_ok-file.file unfailing)
@@ -61,11 +61,11 @@ loop-section-init g c =
     let w = world files (g.S.Store.failures c.args.store.now) out in
     let known = seen files after.left in
     let none : c.new-done.result.items ≡ [] = search rules in
-    let v = world (g.S.Store.files c.open_set.new.store) (g.S.Store.failures c.open_set.new.store) out in
+    let v = world (g.S.Store.files c.open_file.new.store) (g.S.Store.failures c.open_file.new.store) out in
     subst (λ (ds : List Section). IsAt files c.args.dataset.now c.args.prefix.now w v ds c.in-Ok.sections
     known) (sym none)
     (subst (λ (x : World). IsAt files c.args.dataset.now c.args.prefix.now w x [] c.in-Ok.sections known)
-    (sym (same_world _ _ _ _ out c.open_set.ensures.same c.open_set.ensures.counted))
+    (sym (same_world _ _ _ _ out c.open_file.ensures.same c.open_file.ensures.counted))
     (at-first c.args.dataset.now c.args.prefix.now before.left after.left w c.in-Ok.sections
     c.in_ok-file.ensures.opened
     (c.in-Ok.ensures.ok (seen files before.left) known (knows-seen files before.left after.left))))
