@@ -1,13 +1,19 @@
 """`explain` of broken files beside the refusals of the commands that read them.
 
 Each file is one of samples/ (a data set, a station table, a message, a script, or a desk file made of them) with one to three places
-altered, but not its first line, by which `explain` sees what the file is. The first line that `explain` prints has to be the refusal of
-the command that reads such a file; or `valid ..` if the command refuses the file for nothing that is within it.
+altered, but not its first line, by which `explain` sees what the file is; or a mailbox of messages, in envelopes or not, with or without the
+headers of a mail. The first line that `explain` prints has to be the refusal of the command that reads such a file; or `valid ..` if the
+command refuses the file for nothing that is within it. Of a mailbox it has to count the texts and those that are no message, and each of
+these has to have its refusal, with the line of the file.
 """
 import os
 import shutil
 
+import mail
+import receive
+
 TOP = os.path.dirname(os.path.dirname(os.path.abspath(__file__)))
+HEADERS = [b"", b"", b"", b"From: ops@example.com\nSubject: changes\n\n", b"From ops@example.com Mon Mar 15 09:00:00 2027\n\nHello,\n\n"]
 BYTES = b" 0189AZaz/+-\n\r.\x00\xff"
 # The numbers of the refusals that are within a file of each kind. All others are of other files, or of several together.
 WITHIN = {
@@ -41,7 +47,19 @@ def altered(data, rng):
     else:
         lines.insert(rng.randrange(len(lines)), lines[line])
     return data[:start] + b"\n".join(lines)
-KINDS = list(WITHIN)
+
+
+KINDS = [*WITHIN, "mailbox"]
+
+
+def mailbox_of(rng, texts):
+    """Some texts in one file, as mail brings them, or words without any."""
+    found, _ = receive.mailbox(rng, texts)
+    if rng.random() < 0.2:
+        found = found.replace(b"NNNN\n", b"")
+    if rng.random() < 0.1:
+        found = b"Please see the attachment.\n"
+    return rng.choice(HEADERS) + found
 
 
 def make(rng, room, kind):
@@ -52,29 +70,66 @@ def make(rng, room, kind):
     room("take", "empty", "full", *texts[:4])
     sources = {"data set": ["season.ssim"], "station table": ["stations.txt"], "message": texts, "desk file": ["empty", "full"],
                "script": ["rehearsal.txt", "conflict.txt"]}
-    data = room.read(rng.choice(sources[kind]))
-    for _ in range(rng.randrange(1, 4)):
+    if kind == "mailbox":
+        data = mailbox_of(rng, [room.read(name) for name in rng.sample(texts, rng.randrange(1, 4))])
+    else:
+        data = room.read(rng.choice(sources[kind]))
+    for _ in range(rng.randrange(kind != "mailbox", 4)):
         data = altered(data, rng)
     room.write("broken", data)
     return kind
 
 
-def refusal(room, kind):
+def refusal(room, kind, name="broken"):
     """The line of the refusal that the command gives for something within the file, or nothing."""
     words = {
-        "data set": ["check", "broken"],
-        "station table": ["start", "season.ssim", "broken", "out"],
-        "message": ["take", "empty", "out", "broken"],
-        "desk file": ["findings", "broken"],
-        "script": ["rehearse", "season.ssim", "stations.txt", "broken"],
+        "data set": ["check", name],
+        "station table": ["start", "season.ssim", name, "out"],
+        "message": ["take", "empty", "out", name],
+        "desk file": ["findings", name],
+        "script": ["rehearse", "season.ssim", "stations.txt", name],
     }[kind]
     line = room(*words).err
     parts = line.split()
-    return line if len(parts) > 1 and parts[1].isdigit() and int(parts[1]) in WITHIN[kind] else ""
+    return line.rstrip("\n") if len(parts) > 1 and parts[1].isdigit() and int(parts[1]) in WITHIN[kind] else ""
+
+
+def taken_for(data):
+    """The kind of a file of mail, by its first line that is not empty."""
+    data = data.lstrip(b" \t\n\x0c\r")
+    first = data.split(b"\n")[0].rstrip(b"\r ")
+    if not data or first[:1].isdigit():
+        return "data set"
+    return "message" if first.startswith(b".") or len(first.split(b" ")) == 1 else "station table"
+
+
+def lines_on_mailbox(room, texts):
+    """The first line on a mailbox, and the lines of the refusals of its texts."""
+    found = []
+    for begin, text in texts:
+        room.write("text", text)
+        line = refusal(room, "message", "text")
+        found += [receive.moved(line, begin)] if line else []
+    return [f"mailbox texts {len(texts)} refused {len(found)}", *found]
+
+
+def lines_wanted(room, kind):
+    """The first line that has to be printed, of a mailbox with those of the refusals of its texts."""
+    data = room.read("broken")
+    kind = taken_for(data) if kind == "mailbox" else kind
+    line = refusal(room, kind)
+    if line and kind in ("message", "station table"):
+        texts = mail.Mailbox(data).texts()
+        if mail.is_mailbox(data, texts):
+            return lines_on_mailbox(room, texts)
+        if mail.begins_mail(data) and not any(mail.has_message(text) for _, text in texts):
+            return ["foreign mail"]
+    return [line or "valid "]
 
 
 def compared(_, room, kind):
-    wanted, answer = refusal(room, kind).rstrip("\n"), room("explain", "broken")
-    first = answer.out.decode("latin-1").split("\n", 1)[0]
-    room.counts[f"{kind} {'refused' if wanted else 'valid'}"] += 1
-    yield "explain broken", (answer.status, first if wanted else first[:6], answer.err), (0, wanted or "valid ", "")
+    wanted, answer = lines_wanted(room, kind), room("explain", "broken")
+    lines = answer.out.decode("latin-1").split("\n")
+    first = [lines[0][:6]] if wanted == ["valid "] else [lines[0], *[line for line in lines[1:] if line.startswith("refused ")]]
+    room.counts[f"{kind}: {wanted[0].split(' ')[0]}"] += 1
+    yield "explain broken", (answer.status, first, answer.err), (0, wanted, "")

@@ -153,6 +153,9 @@ def foreign_files():
         ("utf-8-mark", text.encode("utf-8-sig")),
         ("ebcdic", text.encode("cp500")),
         ("markup", b"\r\n <html><pre>" + season + b"</pre></html>\n"),
+        ("mail", b"From ops@example.com Mon Mar 15 09:00:00 2027\n\nPlease see the attachment.\n"),
+        ("mail", b"Subject: winter schedule\nTo: ops@example.com\n\nPlease see the attachment.\n"),
+        ("mail", b"X-Priority: 3\n"),
     ]
 
 
@@ -161,6 +164,35 @@ def foreign_answers(program):
     remedies = {name: remedy for _first, name, remedy in rows_from("docs/FORMATS.md", "| First bytes | `foreign` | What to do |")}
     for name, data in foreign_files():
         yield f"a file of {name}", f"foreign {name}\nwhat to do: {remedies[name]}\n", printed(program, "-", data)
+
+
+def mailboxes():
+    """Files that are mail or nearly so, the numbers of their texts and of refused ones, and the lines of the latter; or None for no mailbox."""
+    good, bad = message(), message(b"30FEB 25OCT25 1", start=6)
+    heads = b"From: ops@example.com\nSubject: changes\n\n"
+    return [
+        ("two valid texts", good + b"NNNN\n" + good, (2, 0, [])),
+        ("a valid and an invalid text", good + b"NNNN\n" + bad + b"NNNN\n", (2, 1, [(24, 6 + good.count(b"\n") + 1)])),
+        ("an invalid text in an envelope", b"ZCZC ABC123\n" + bad, (1, 1, [(24, 7)])),
+        ("a valid text and its end", good + b"\nNNNN\n", (1, 0, [])),
+        ("a mail with two texts", heads + good + b"\nNNNN\n\n\n" + bad, (3, 2, [(20, 1), (24, 13 + good.count(b"\n"))])),
+        ("an invalid text", bad, None),
+        ("an invalid text with empty lines and ends of lines", b"\r\n" + bad.replace(b"\n", b" \r\n\n"), None),
+        ("a mail without a message", heads, None),
+        ("a station table", b"JFK 30MAR25\n", None),
+    ]
+
+
+def mailbox_answers(program):
+    """The first line that is printed of each, and those of its refused texts; of what is no mailbox, that it is none."""
+    for name, data, counts in mailboxes():
+        lines = printed(program, "-", data).splitlines()
+        found = [(int(words[1]), int(words[4])) for words in map(str.split, lines[1:]) if words[:1] == ["refused"]]
+        if counts is None:
+            yield f"{name} is no mailbox", False, lines[0].startswith("mailbox")
+        else:
+            yield f"a mailbox: {name}", (f"mailbox texts {counts[0]} refused {counts[1]}", counts[2]), (lines[0], found)
+            yield f"empty lines of a mailbox: {name}", counts[1], lines.count("")
 
 
 def known_texts():
@@ -237,6 +269,7 @@ def main():
         wanted = f"{first} {place}\n{second}\n{there(data, place)}{last}\n"
         answers.append((f"a file with {number}", wanted, ends_of(printed(program, "-", data))))
     answers += foreign_answers(program)
+    answers += mailbox_answers(program)
     answers += known_answers(program)
     answers += named_answers(program, rows)
     passed = failed = 0

@@ -1,6 +1,7 @@
 -- What `explain` prints: for a number or a name the line of a refusal that has it; for a file the line
--- of its refusal, or of the other program that made it; and then an explanation.
-use Rattle.std.specs.Prelude.{◌≡◌, ◌⊎◌, ℕ, ◌==◌, Bool, false, true}
+-- of its refusal, of the other program that made it, or of the mailbox that it is; and then an
+-- explanation.
+use Rattle.std.specs.Prelude.{◌≡◌, ◌⊎◌, ℕ, ◌==◌, Bool, false, true, ◌&&◌}
 use Rattle.std.specs.Prelude.{List, [], ◌∷◌, ◌++◌, drop, map, Option, Some, None}
 use Rattle.std.specs.Prelude.{Ok, Err, if◌then◌else◌, codes}
 use Rattle.std.specs.Char.{is_ascii_whitespace, to_ascii_lowercase}
@@ -30,11 +31,13 @@ use Rattle.ssim_program.specs.Files.{Files}
 use Rattle.ssim_program.specs.Foreign.{BeginsWithForeign, begins_with, foreign_kind}
 use Rattle.ssim_command_line.specs.Line.{Text}
 use Rattle.ssim_program.specs.Made.{HasFile, IsMissing, IsOfBytes, file_limit}
+use Rattle.ssim_program.specs.Mailboxes.{BeginsWithMailbox, is_mail, is_mailbox}
 use Rattle.ssim_program.specs.print.Refusal.{refusal_head, refusal_name, refusal_number, refusal_text}
 use Rattle.ssim_program.specs.rehearse.Script.{RefusesScript, Script, SpellsScript}
 use Rattle.ssim_program.specs.declared.explain.file_kind.FileKind.{FileKind}
 use Rattle.ssim_program.specs.declared.explain.file_kind.FileKind.TheVariants as kind
 use Rattle.ssim_program.specs.declared.explain.foreign.ForeignKind.{ForeignKind}
+use Rattle.ssim_program.specs.declared.explain.foreign.ForeignKind.TheVariants as foreign
 use Rattle.ssim_program.specs.declared.refusal.Refusal.{Refusal}
 use Rattle.ssim_program.specs.declared.refusal.Refusal.TheVariants as refused
 
@@ -136,10 +139,32 @@ IsValid kind.Script bytes = (script : Script) × SpellsScript script bytes
 IsValid kind.Message bytes = (message : MessageValue) × SpellsMessage message bytes
 IsValid kind.Stations bytes = (rows : List Row) × SpellsTable rows bytes
 
--- the text begins with the name of another program's files, or else it explains the refusal
-abbrev pub TellsInvalid : Option ForeignKind → Refusal → List ℕ → Type 0
-TellsInvalid (Some kind) refusal printed = BeginsWithForeign kind printed
-TellsInvalid None refusal printed = BeginsWith refusal printed
+-- what an invalid file is told to be: a file of another program, a mailbox, or one of its kind
+pub data Told : Type 0 where
+  AsForeign : ForeignKind → Told
+  AsMailbox : Told
+  AsRefused : Told
+
+-- a text or a station table may be mail
+abbrev pub may_be_mail : FileKind → Bool
+may_be_mail kind.Message = true
+may_be_mail kind.Stations = true
+may_be_mail _ = false
+
+-- what a file is told to be, if its first bytes are those of this kind or of none
+abbrev pub told_as : Option ForeignKind → List ℕ → Told
+told_as (Some kind) bytes = AsForeign kind
+told_as None bytes =
+    if may_be_mail (kind_of bytes) && is_mailbox bytes then AsMailbox
+    else (if may_be_mail (kind_of bytes) && is_mail bytes then AsForeign foreign.Mail
+    else AsRefused)
+
+-- the text begins with the name of another program's files, with the counts of a mailbox, or else
+-- it explains the refusal
+abbrev pub TellsInvalid : Told → List ℕ → Refusal → List ℕ → Type 0
+TellsInvalid (AsForeign kind) bytes refusal printed = BeginsWithForeign kind printed
+TellsInvalid AsMailbox bytes refusal printed = BeginsWithMailbox bytes printed
+TellsInvalid AsRefused bytes refusal printed = BeginsWith refusal printed
 
 -- the name of a kind of file
 abbrev pub kind_name : FileKind → List ℕ
@@ -149,12 +174,12 @@ kind_name kind.Script = codes "desk script"
 kind_name kind.Message = codes "text"
 kind_name kind.Stations = codes "station table"
 
--- The text says that the file is invalid, of which kind of another program it is or which refusal
--- it has, or it says that the file is valid, and of which kind it is.
+-- The text says that the file is invalid: of which kind of another program it is, how many texts the
+-- mailbox has, or which refusal it has. Or it says that the file is valid, and of which kind it is.
 abbrev pub ExplainsBytes : List ℕ → List ℕ → Type 0
 ExplainsBytes bytes printed =
     ((refusal : Refusal) × IsInvalid (kind_of bytes) bytes refusal
-    × TellsInvalid (foreign_kind bytes) refusal printed)
+    × TellsInvalid (told_as (foreign_kind bytes) bytes) bytes refusal printed)
     ⊎ (IsValid (kind_of bytes) bytes
     × (printed ≡ line (codes "valid " ++ kind_name (kind_of bytes))))
 

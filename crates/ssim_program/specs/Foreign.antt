@@ -38,7 +38,7 @@ is_ebcdic bytes = begins_with bytes (241 ∷ 193 ∷ [])
 abbrev pub is_markup : List ℕ → Bool
 is_markup bytes = begins_with (drop (prefix_len is_ascii_whitespace bytes) bytes) (codes "<")
 
--- the kind of a file of another program
+-- the kind of a file of another program, by its first bytes
 abbrev pub foreign_kind : List ℕ → Option ForeignKind
 foreign_kind bytes =
     if is_gzip bytes then Some kind.Gzip
@@ -58,6 +58,7 @@ foreign_name kind.Utf16 = codes "utf-16"
 foreign_name kind.Utf8Mark = codes "utf-8-mark"
 foreign_name kind.Ebcdic = codes "ebcdic"
 foreign_name kind.Markup = codes "markup"
+foreign_name kind.Mail = codes "mail"
 
 -- the text begins with the line of a foreign kind
 abbrev pub BeginsWithForeign : ForeignKind → List ℕ → Type 0

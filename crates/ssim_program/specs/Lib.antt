@@ -2,6 +2,7 @@ pub mod Answer
 pub mod Acts
 pub mod Files
 pub mod Foreign
+pub mod Mailboxes
 pub mod Places
 pub mod print
 pub mod Made

@@ -14,6 +14,7 @@ mod example;
 mod file;
 pub(crate) mod file_kind;
 pub(crate) mod foreign;
+mod mail;
 mod name;
 
 use crate::data_set::load_file;

@@ -1,7 +1,11 @@
--- What is found in a file, and what is an example of refusals.
+-- What is found in a file, what becomes of the texts of a mailbox, and what is an example of refusals.
 use Rattle.std.specs.Prelude.{◌≡◌, ℕ, List, Option, Some, None, false, true}
 use Rattle.ssim_guide.specs.Words.{is_refusal}
+use Rattle.ssim_mailbox.specs.Texts.{MailText}
+use Rattle.ssim_mailbox.specs.clauses.Mail.{mail_of}
+use Rattle.ssim_text.specs.declared.fault.TextFault.{TextFault}
 use Rattle.ssim_program.specs.declared.explain.file_kind.FileKind.{FileKind}
+use Rattle.ssim_program.specs.declared.explain.mail.TriedText.{TriedText}
 use Rattle.ssim_program.specs.declared.refusal.Refusal.{Refusal}
 use Rattle.ssim_program.specs.Explained.{IsInvalid, IsValid}
 use Rattle.ssim_program.specs.print.Refusal.{refusal_number}
@@ -10,6 +14,10 @@ use Rattle.ssim_program.specs.print.Refusal.{refusal_number}
 abbrev pub Judges : FileKind → List ℕ → Option Refusal → Type 0
 Judges k bytes (Some refusal) = IsInvalid k bytes refusal
 Judges k bytes None = IsValid k bytes
+
+-- a text that was tried, as contracts see it
+abbrev pub tried_of : TriedText → MailText × Option TextFault
+tried_of t = (mail_of t.text, t.fault)
 
 -- an example of the refusals of a number, if a command may have one
 abbrev pub IsExample : ℕ → Option Refusal → Type 0

@@ -1,15 +1,18 @@
-//! What is printed on a file: the refusal of its first invalid place, or that it is valid.
+//! What is printed on a file: the refusal of its first invalid place, what else it is, or that it is
+//! valid.
 
-ghost use Rattle.std.specs.Prelude.{◌≡◌, ◌≤◌, ◌++◌, codes, length, IfOk};
+ghost use Rattle.std.specs.Prelude.{◌≡◌, ◌≤◌, ◌++◌, codes, length, true, IfOk, None};
 ghost use Rattle.ssim_base.specs.Export.{line};
 ghost use Rattle.ssim_program.specs.Explained.{BeginsWith, ExplainsBytes, TellsInvalid, kind_name};
+ghost use Rattle.ssim_program.specs.Explained.{kind_of, may_be_mail, told_as};
 ghost use Rattle.ssim_program.specs.Foreign.{foreign_kind};
 ghost use Rattle.ssim_program.specs.internal.Explain.{Judges};
 ghost use Rattle.ssim_program.specs.Made.{file_limit};
 ghost use Rattle.ssim_program.specs.declared.explain.file_kind.FileKind.TheVariants as kind;
 
 use super::file_kind::{FileKind, kind_of};
-use super::foreign::{foreign_kind, on_foreign};
+use super::foreign::{ForeignKind, foreign_kind, on_foreign};
+use super::mail::{is_mail, is_mailbox, on_mailbox, tried_texts};
 use super::on_refusal;
 use crate::data_set::{LIMIT, sum_bytes};
 use crate::refusal::Refusal;
@@ -30,19 +33,52 @@ pub(crate) fn on_bytes(alloc: Global, bytes: &[u8]) -> Result<Vec<u8>, Memory>
 {
     let kind = kind_of(bytes);
     match judged(alloc, kind, bytes)? {
-        Some(refusal) => on_invalid(alloc, bytes, &refusal),
+        Some(refusal) => on_invalid(alloc, kind, bytes, &refusal),
         None => on_valid(alloc, kind),
     }
 }
 
-/// What is printed on a file with this refusal.
-fn on_invalid(alloc: Global, bytes: &[u8], refusal: &Refusal) -> Result<Vec<u8>, Memory>
-    ensures { IfOk result (λ text. TellsInvalid (foreign_kind bytes.now) refusal.now text.items) }
+/// What is printed on a file of this kind with this refusal.
+fn on_invalid(
+    alloc: Global,
+    kind: FileKind,
+    bytes: &[u8],
+    refusal: &Refusal,
+) -> Result<Vec<u8>, Memory>
+    requires { kind ≡ kind_of bytes.now }
+    ensures { IfOk result (λ text.
+        TellsInvalid (told_as (foreign_kind bytes.now) bytes.now) bytes.now refusal.now text.items) }
 {
     match foreign_kind(bytes) {
-        Some(kind) => on_foreign(alloc, kind),
+        Some(foreign) => on_foreign(alloc, foreign),
+        None if may_be_mail(kind) => on_text(alloc, bytes, refusal),
         None => on_refused(alloc, bytes, refusal),
     }
+}
+
+/// Whether a file of this kind may be mail.
+fn may_be_mail(kind: FileKind) -> bool
+    ensures { result ≡ may_be_mail kind }
+{
+    matches!(kind, FileKind::Message | FileKind::Stations)
+}
+
+/// What is printed on a file with this refusal that may be mail.
+fn on_text(alloc: Global, bytes: &[u8], refusal: &Refusal) -> Result<Vec<u8>, Memory>
+    requires { may_be_mail (kind_of bytes.now) ≡ true }
+    ensures { IfOk result (λ text.
+        TellsInvalid (told_as None bytes.now) bytes.now refusal.now text.items) }
+{
+    let texts = tried_texts(alloc, bytes)?;
+    let as_mailbox = is_mailbox(alloc, &texts, bytes)?;
+    if as_mailbox {
+        return on_mailbox(alloc, bytes, &texts);
+    }
+    let as_mail = is_mail(alloc, &texts, bytes)?;
+    if as_mail {
+        return on_foreign(alloc, ForeignKind::Mail);
+    }
+    on_refused(alloc, bytes, refusal)
 }
 
 /// The line of the refusal of a file, the words on it, and the words on its place.

@@ -10,7 +10,7 @@ use std::alloc::Global;
 use std::io::Write;
 
 /// A kind of file of other programs. It is known by its first bytes, with which no valid file
-/// begins.
+/// begins; a mail also by having no message.
 #[derive(Clone, Copy, Debug, PartialEq, Eq)]
 pub enum ForeignKind {
     /// A file that gzip made: bytes 1F 8B.
@@ -27,9 +27,11 @@ pub enum ForeignKind {
     Ebcdic,
     /// A page of HTML or XML: `<` after white space.
     Markup,
+    /// A mail without a message: a header, or the first line of a mail in a mail folder.
+    Mail,
 }
 
-/// The kind of a file of another program, by its first bytes.
+/// The kind of a file of another program, by its first bytes alone.
 pub(crate) fn foreign_kind(bytes: &[u8]) -> Option<ForeignKind>
     ensures { result ≡ foreign_kind bytes.now }
 {
@@ -100,6 +102,7 @@ impl ForeignKind {
             ForeignKind::Utf8Mark => "utf-8-mark",
             ForeignKind::Ebcdic => "ebcdic",
             ForeignKind::Markup => "markup",
+            ForeignKind::Mail => "mail",
         }
     }
 
@@ -113,6 +116,7 @@ impl ForeignKind {
             ForeignKind::Utf8Mark => "take its first three bytes off: tail -c +4",
             ForeignKind::Ebcdic => "ask for it in ASCII, or dd conv=ascii",
             ForeignKind::Markup => "save it as text, not as a page",
+            ForeignKind::Mail => "save the text of the mail, or its attachment, as a file",
         }
     }
 }

@@ -4,6 +4,7 @@ ghost use Rattle.std.specs.Prelude.{◌++◌, ◌∷◌, Some, codes, decimal};
 ghost use Rattle.ssim_values.specs.Designator.{designator_text};
 ghost use Rattle.ssim_text.specs.Reference.{printed_originator, printed_reference};
 ghost use Rattle.ssim_base.specs.Export.{line};
+ghost use Rattle.ssim_program.specs.Receiving.{refused_at};
 ghost use Rattle.ssim_program.specs.internal.Print.{Prints, PrintsPart, without_originator};
 ghost use Rattle.ssim_program.specs.print.Refusal.{named_text, place_text, refusal_file};
 ghost use Rattle.ssim_program.specs.print.Refusal.{refusal_head};
@@ -14,6 +15,7 @@ use crate::print::printer::{Printer, print_all, put_parts};
 use crate::refusal::Refusal;
 use itoa::Buffer;
 use ssim_base::Place;
+use ssim_desk::DeskFault;
 use ssim_text::{Originator, Reference};
 use ssim_values::Designator;
 use std::fmt;
@@ -45,6 +47,36 @@ impl fmt::Display for RefusalLine<'_> {
                 place
             }
         )
+    }
+}
+
+/// The line of the refusal of a text in a mailbox, without its end. Its place is counted from the
+/// first line of the mailbox.
+#[derive(Clone, Copy, Debug)]
+pub(crate) struct RefusedAt {
+    /// The number of this line, from 1.
+    pub first: usize,
+    /// Why the text is refused.
+    pub fault: DeskFault,
+}
+
+impl fmt::Display for RefusedAt {
+    ghost output = { λ r. Some (refused_at r.first r.fault) };
+
+    fn fmt<W: fmt::Write>(&self, f: &mut fmt::Formatter<W>) -> fmt::Result {
+        let refusal = Refusal::from(self.fault);
+        match refusal.place() {
+            Place::Line(line) => {
+                let number = refusal.number();
+                let name = refusal.name();
+                let line_in_file = (self.first as u128 + line as u128).saturating_sub(1);
+                write!(f, "refused {number} {name} line {line_in_file}")
+            }
+            _ => {
+                let line = RefusalLine { refusal: &refusal };
+                write!(f, "{line}")
+            }
+        }
     }
 }
 

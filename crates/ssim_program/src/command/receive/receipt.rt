@@ -4,16 +4,15 @@ ghost use Rattle.std.specs.Prelude.{◌≡◌, ◌<◌, ◌+◌, ◌^◌, [], �
 ghost use Rattle.std.specs.Prelude.{if◌then◌else◌};
 ghost use Rattle.ssim_base.specs.Export.{line};
 ghost use Rattle.ssim_program.specs.Receiving.{beginning_text, is_refused, is_repeated, is_taken};
-ghost use Rattle.ssim_program.specs.Receiving.{receipt_text, refused_at, refused_text, total_text};
+ghost use Rattle.ssim_program.specs.Receiving.{receipt_text, refused_text, total_text};
 ghost use Rattle.ssim_program.specs.internal.Receive.{AddsOne, AreReceipts, HaveLines, receipt_of};
 
 use crate::command::take::printed;
 use crate::print::name::printed_name;
 use crate::print::printed_line::add_line;
-use crate::print::refusal_line::RefusalLine;
+use crate::print::refusal_line::{RefusalLine, RefusedAt};
 use crate::refusal::Refusal;
 use itoa::Buffer;
-use ssim_base::Place;
 use ssim_desk::{DeskFault, Took};
 use ssim_mailbox::Text;
 use ssim_text::Reference;
@@ -79,33 +78,6 @@ impl Receipt<'_> {
 }
 
 // ---- the lines
-
-/// The refusal of a text that begins on this line of its file.
-#[derive(Clone, Copy, Debug)]
-struct RefusedAt {
-    first: usize,
-    fault: DeskFault,
-}
-
-impl fmt::Display for RefusedAt {
-    ghost output = { λ r. Some (refused_at r.first r.fault) };
-
-    fn fmt<W: fmt::Write>(&self, f: &mut fmt::Formatter<W>) -> fmt::Result {
-        let refusal = Refusal::from(self.fault);
-        match refusal.place() {
-            Place::Line(line) => {
-                let number = refusal.number();
-                let name = refusal.name();
-                let line_in_file = (self.first as u128 + line as u128).saturating_sub(1);
-                write!(f, "refused {number} {name} line {line_in_file}")
-            }
-            _ => {
-                let line = RefusalLine { refusal: &refusal };
-                write!(f, "{line}")
-            }
-        }
-    }
-}
 
 /// Adds the beginning of the line of a text: its file, and the line on which it begins.
 fn push_beginning(
