@@ -35,10 +35,7 @@ pub(crate) fn with_ends(
     requires arrival { IsMoved arrival.now }
     ensures { result ≡ with_ends departure.now arrival.now shift columns.now }
 {
-    match LegColumns::of(&bytes_with(columns, departure, arrival, shift)) {
-        Some(columns) => columns,
-        None => unreachable!(),
-    }
+    LegColumns::of(bytes_with(columns, departure, arrival, shift))
 }
 
 // The bytes of these columns.

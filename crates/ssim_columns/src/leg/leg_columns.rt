@@ -1,27 +1,27 @@
 //! The columns of a leg itself.
 
-ghost use Rattle.std.specs.Prelude.{◌≡◌, ◌<◌, ◌+◌, ◌^◌, ◌∷◌, ◌↔◌, [], None, Some, IsSome, IfSome, IsTrue, length};
+ghost use Rattle.std.specs.Prelude.{◌≡◌, ◌<◌, ◌+◌, ◌^◌, ◌∷◌, [], None, Some, IsTrue, length};
 ghost use Rattle.std.specs.Str.{bytes_eq};
 ghost use Rattle.ssim_values.specs.Clock.{clock_of};
 ghost use Rattle.ssim_columns.specs.declared.field.FieldKind.TheVariants.{StationCode, Time};
 ghost use Rattle.ssim_columns.specs.declared.field.FieldKind.TheVariants.{PassengerTime};
 ghost use Rattle.ssim_columns.specs.declared.field.FieldKind.TheVariants.{UtcVariation};
-ghost use Rattle.ssim_columns.specs.Columns.{fault_in, is_carried, passenger_time_of, utc_variation_of, first_fault, EachIsValid};
-ghost use Rattle.ssim_columns.specs.Leg.{AreLegColumns, leg_columns, leg_table, own_table};
-ghost use Rattle.ssim_columns.specs.Leg.{own_columns, spread};
+ghost use Rattle.ssim_columns.specs.Columns.{fault_in, is_carried, passenger_time_of, utc_variation_of, EachIsValid};
+ghost use Rattle.ssim_columns.specs.Leg.{AreLegColumns, leg_columns, leg_table};
+ghost use Rattle.ssim_columns.specs.Leg.{own_columns};
 ghost use Rattle.ssim_columns.specs.clauses.Leg.{four_bytes, is_own, quick_hash, three_bytes};
 ghost use Rattle.ssim_columns.specs.internal.LegColumns.{IsAfter};
 ghost use Rattle.ssim_columns.specs.clauses.LegParts.{ChangesEquipment, ChangesTimes};
 ghost use Rattle.ssim_columns.specs.clauses.LegParts.{equipment_fields};
 ghost use Rattle.ssim_columns.specs.LegParts.{new_leg, with_equipment, with_times};
 
-use crate::field::{Field, clock_of, first_fault_of, passenger_time_of, utc_variation_of};
+use crate::field::{Field, clock_of, passenger_time_of, utc_variation_of};
 use crate::leg::leg_fields::{
     AFTER_OVERFLOW, AIRCRAFT_ARRIVAL, AIRCRAFT_DEPARTURE, AIRCRAFT_TYPE, ARRIVAL_STATION,
     ARRIVAL_TERMINAL, ARRIVAL_VARIATION, BEFORE_MIDDLE, BEFORE_TAIL, BOOKING_DESIGNATORS,
     COLUMNS_96_TO_127, COLUMNS_129_TO_172, CONFIGURATION, DATE_VARIATIONS, DEPARTURE_STATION,
-    DEPARTURE_TERMINAL, DEPARTURE_VARIATION, MIDDLE, MIDDLE_FIELDS, PASSENGER_ARRIVAL,
-    PASSENGER_DEPARTURE, SERVICE_TYPE,
+    DEPARTURE_TERMINAL, DEPARTURE_VARIATION, MIDDLE, PASSENGER_ARRIVAL, PASSENGER_DEPARTURE,
+    SERVICE_TYPE,
 };
 use crate::leg::leg_parts::{LegEquipment, LegStations, LegTimes};
 use crate::text::array::bytes_of;
@@ -49,34 +49,6 @@ impl Model for LegColumns {
     ghost invariant = { λ s. AreLegColumns s.bytes };
 
     ghost inverse = { λ v. record { bytes = v } };
-}
-
-fn spread(own: &[u8; 158]) -> [u8; 200]
-    ensures { result ≡ spread own.now }
-{
-    let mut bytes = [0; 200];
-    join(
-        &mut bytes,
-        &[
-            &[b' '; 13],
-            &own[0..1],
-            &[b' '; 22],
-            &own[1..92],
-            &[b' '],
-            &own[92..158],
-            &[b' '; 6],
-        ],
-    );
-    bytes
-}
-
-fn own_fault(own: &[u8; 158]) -> Option<usize>
-    ensures { result ≡ first_fault (spread own.now) own_table }
-{
-    first_fault_of(
-        &[&[SERVICE_TYPE], &MIDDLE_FIELDS, &[AFTER_OVERFLOW]],
-        &spread(own),
-    )
 }
 
 // Writes the leg's own columns of a record, each part in whole words.
@@ -171,15 +143,12 @@ fn four_bytes(text: &[u8]) -> u64
 }
 
 impl LegColumns {
-    /// The columns, if each of their fields is valid.
-    pub fn of(bytes: &[u8; 158]) -> Option<LegColumns>
-        ensures some { IsSome result ↔ AreLegColumns bytes.now }
-        ensures value { IfSome result (λ columns. columns ≡ bytes.now) }
+    /// The columns of these bytes, each field of which is valid.
+    pub fn of(bytes: [u8; 158]) -> LegColumns
+        requires { AreLegColumns bytes }
+        ensures { result ≡ bytes }
     {
-        match own_fault(bytes) {
-            Some(_) => None,
-            None => Some(LegColumns { bytes: *bytes }),
-        }
+        LegColumns { bytes }
     }
 
     /// The columns of a new leg with these stations, times and equipment, and blanks in all other
