@@ -5,3 +5,4 @@ pub mod Near
 pub mod OnBoard
 pub mod InMinutes
 pub mod TwoKinds
+pub mod DaysThere

@@ -18,6 +18,7 @@ use Rattle.ssim_base.specs.Timetable.{LegValue, on_day}
 use Rattle.ssim_board.specs.LegTimes.{arrival_time, date_variation, days_added, departure_time, time_in, variation_in}
 use Rattle.ssim_board.specs.LocalTime.{Moment, local_time, moment, moment_on, moved_by}
 use Rattle.ssim_board.specs.Movements.{OnlyNearDates, is_there, leg_movements, movement, station_of, time_of}
+use Rattle.ssim_board.specs.internal.DaysThere.{days_after}
 use Rattle.ssim_board.specs.declared.board.Board.{Board}
 use Rattle.ssim_board.specs.declared.movement.MovementKind.{MovementKind}
 use Rattle.ssim_board.specs.declared.movement.MovementKind.TheVariants.{Departure, Arrival}
@@ -77,6 +78,10 @@ offset_small text = variation_small (list_all is_blank text) (variation_of text)
 few_days : (b : ℕ) → days_added b ≤ 9
 few_days b = grind (arith, nat_tests)
 
+few_after : (columns : List ℕ) (kind : MovementKind) → days_after columns kind ≤ 9
+few_after columns Departure = few_days (date_variation 0 columns)
+few_after columns Arrival = few_days (date_variation 1 columns)
+
 departure_near : (mode : TimeMode) (date : ℕ) (columns : List ℕ) → IsNear (date + days_added (date_variation 0 columns) + 1) (departure_time mode date columns)
 unfolding departure_time
 departure_near mode date columns =
@@ -87,9 +92,10 @@ unfolding arrival_time
 arrival_near mode date columns =
     local_near mode (variation_in 66 70 columns) (date + days_added (date_variation 1 columns) + 1) (time_in 58 61 columns) (clock_small (leg_columns 58 61 columns)) (offset_small (leg_columns 66 70 columns))
 
-pub end_near : (mode : TimeMode) (date : ℕ) (columns : List ℕ) (kind : MovementKind) → (time_of mode date columns kind).minutes ≤ 1440
-end_near mode date columns Departure = (departure_near mode date columns).within
-end_near mode date columns Arrival = (arrival_near mode date columns).within
+pub end_near : (mode : TimeMode) (date : ℕ) (columns : List ℕ) (kind : MovementKind)
+    → IsNear (date + days_after columns kind + 1) (time_of mode date columns kind)
+end_near mode date columns Departure = departure_near mode date columns
+end_near mode date columns Arrival = arrival_near mode date columns
 
 -- ---- dates of origin that are far from the date of a board
 
@@ -109,18 +115,9 @@ not_there : (board : Board) (date : ℕ) (leg : LegValue) (kind : MovementKind) 
 unfolding is_there
 not_there board date leg kind far =
     and_false (bytes_eq (station_of leg.columns kind) board.station)
-    (nat_eq (time_of board.mode date leg.columns kind).days (board.day + 1)) (on_other_day kind)
-  where
-    on_other_day : (kind : MovementKind)
-        → nat_eq (time_of board.mode date leg.columns kind).days (board.day + 1) ≡ false
-    on_other_day Departure =
-        other_day board.day date (days_added (date_variation 0 leg.columns))
-        (departure_time board.mode date leg.columns) (few_days (date_variation 0 leg.columns))
-        (departure_near board.mode date leg.columns) far
-    on_other_day Arrival =
-        other_day board.day date (days_added (date_variation 1 leg.columns))
-        (arrival_time board.mode date leg.columns) (few_days (date_variation 1 leg.columns))
-        (arrival_near board.mode date leg.columns) far
+    (nat_eq (time_of board.mode date leg.columns kind).days (board.day + 1))
+    (other_day board.day date (days_after leg.columns kind) (time_of board.mode date leg.columns kind)
+    (few_after leg.columns kind) (end_near board.mode date leg.columns kind) far)
 
 none_far : (board : Board) (flight : FlightNumber) (date : ℕ) (leg : LegValue) → IsFar board date → leg_movements board flight date leg ≡ []
 unfolding leg_movements

@@ -48,7 +48,7 @@ module _ (board : Board) (flight : FlightNumber) (date : ℕ) where
 
 -- ---- all dates of origin
 
-end_within : (day : ℕ) (b : Bool) → nat_lt day 36524 ≡ b → (if b then day + 1 else 36524) + 1 ≤ 36525
+pub end_within : (day : ℕ) (b : Bool) → nat_lt day 36524 ≡ b → (if b then day + 1 else 36524) + 1 ≤ 36525
 end_within day true e = let early : day < 36524 = grind (arith, nat_tests) in omega arith
 end_within day false e = omega arith
 
@@ -133,8 +133,8 @@ leg_timed : (board : Board) (flight : FlightNumber) (date : ℕ) → (leg : _) �
 unfolding leg_movements movement
 leg_timed board flight date leg =
     every_append IsTimed (end_movements board flight date leg Departure) (end_movements board flight date leg Arrival)
-    (one (is_there board date leg Departure) (movement board flight date leg Departure) (end_near board.mode date leg.columns Departure))
-    (one (is_there board date leg Arrival) (movement board flight date leg Arrival) (end_near board.mode date leg.columns Arrival))
+    (one (is_there board date leg Departure) (movement board flight date leg Departure) (end_near board.mode date leg.columns Departure).within)
+    (one (is_there board date leg Arrival) (movement board flight date leg Arrival) (end_near board.mode date leg.columns Arrival).within)
   where
     one : (b : Bool) (m : Movement) → IsTimed m → Every IsTimed (if b then m ∷ [] else [])
     one true m h = (h, tt)

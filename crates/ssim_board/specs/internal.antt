@@ -1,3 +1,4 @@
 -- Cited by private functions alone.
 pub mod Ranks
 pub mod PieceMovements
+pub mod DaysThere

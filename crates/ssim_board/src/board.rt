@@ -1,7 +1,7 @@
 //! What is on the board of a station on a date.
 
-ghost use Rattle.std.specs.Prelude.{◌≡◌, ◌<◌, ◌-◌, ◌++◌, IfOk, OnOk};
-ghost use Rattle.std.specs.List.{flat_map};
+ghost use Rattle.std.specs.Prelude.{◌≡◌, ◌<◌, ◌≤◌, ◌-◌, ◌++◌, IfOk, OnOk};
+ghost use Rattle.std.specs.List.{AllByRecursion, flat_map};
 ghost use Rattle.ssim_values.specs.Flight.{FlightNumber};
 ghost use Rattle.ssim_periods.specs.Calendar.{holds};
 ghost use Rattle.ssim_base.specs.Timetable.{Days};
@@ -11,13 +11,16 @@ ghost use Rattle.ssim_board.specs.InOrder.{board_of};
 ghost use Rattle.ssim_board.specs.Movements.{end_movements, is_there};
 ghost use Rattle.ssim_board.specs.clauses.Movements.{first_date, last_date};
 ghost use Rattle.ssim_board.specs.Movements.{leg_movements, movement};
+ghost use Rattle.ssim_board.specs.internal.DaysThere.{AreWithin, IsWithin};
+ghost use Rattle.ssim_board.specs.internal.DaysThere.{days_of_end, days_of_leg};
 ghost use Rattle.ssim_board.specs.internal.PieceMovements.{all_movements, date_end};
 ghost use Rattle.ssim_board.specs.internal.PieceMovements.{divided_movements, piece_movements};
 ghost use Rattle.ssim_board.specs.internal.PieceMovements.{on_date};
 
 use crate::in_order::in_order;
-use crate::leg_times::{is_uncertain, station_of, time_of};
+use crate::leg_times::{days_after, is_uncertain, station_of, time_of};
 use crate::movement::{Movement, MovementKind};
+use ssim_records::LegColumns;
 use ssim_schedule::{FlightPieces, Itinerary, PlacedLeg};
 use ssim_values::{Day, Flight, Memory, Period, Station, TimeMode};
 use std::alloc::Global;
@@ -85,8 +88,9 @@ impl Board {
         Ok(())
     }
 
-    // Adds what a flight has on the board. Only dates of origin from ten days before to a day after
-    // the board's date can have something on it.
+    // Adds what a flight has on the board: nothing if it is never at the station. Else the dates of
+    // origin that can have something there begin a day before the board's date, or earlier by the
+    // flight's greatest date variation there, and end a day after the board's date.
     fn push_flight(
         &self,
         movements: &mut Vec<Movement>,
@@ -95,13 +99,63 @@ impl Board {
         ensures { OnOk result
             (movements.new.items ≡ movements.old.items ++ divided_movements self.now flight.now) }
     {
-        for number in self.first_date().number()..self.date_end() {
+        let days = self.days_of_pieces(flight.pieces());
+        if days == 0 {
+            return Ok(());
+        }
+        for number in self.day.number().saturating_sub(days)..self.date_end() {
             let Some(date) = Day::from_number(number) else {
                 unreachable!();
             };
             self.push_pieces(movements, flight.flight(), date, flight.pieces())?;
         }
         Ok(())
+    }
+
+    // One more than the greatest date variation, in days, of an end of these pieces at the station;
+    // 0 if none of their ends is there.
+    fn days_of_pieces(&self, pieces: &[(Period, Itinerary)]) -> u16
+        ensures within { AreWithin self.now result pieces.now }
+        ensures bound { result ≤ 10 }
+    {
+        let mut days = 0;
+        for piece in pieces {
+            days = self.days_of_legs(piece.1.legs()).max(days);
+        }
+        days
+    }
+
+    // The same of legs.
+    fn days_of_legs(&self, legs: &[PlacedLeg]) -> u16
+        ensures within { AllByRecursion (IsWithin self.now result) legs.now }
+        ensures bound { result ≤ 10 }
+    {
+        let mut days = 0;
+        for leg in legs {
+            days = self.days_of_leg(&leg.columns()).max(days);
+        }
+        days
+    }
+
+    // The same of a leg with these columns.
+    fn days_of_leg(&self, columns: &LegColumns) -> u16
+        ensures value { result ≡ days_of_leg self.now columns.now }
+        ensures bound { result ≤ 10 }
+    {
+        let departure = self.days_of_end(columns, MovementKind::Departure);
+        departure.max(self.days_of_end(columns, MovementKind::Arrival))
+    }
+
+    // The same of an end of a leg with these columns.
+    fn days_of_end(&self, columns: &LegColumns, kind: MovementKind) -> u16
+        ensures value { result ≡ days_of_end self.now columns.now kind }
+        ensures bound { result ≤ 10 }
+    {
+        if station_of(columns, kind) == self.station {
+            days_after(columns, kind) + 1
+        } else {
+            0
+        }
     }
 
     // The number after the last date of origin that can have something on the board.

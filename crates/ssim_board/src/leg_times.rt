@@ -5,6 +5,7 @@ ghost use Rattle.ssim_board.specs.LegTimes.{days_added, has_unknown, is_uncertai
 ghost use Rattle.ssim_board.specs.LegTimes.{lacks_variation};
 ghost use Rattle.ssim_board.specs.LocalTime.{local_time};
 ghost use Rattle.ssim_board.specs.Movements.{station_of, time_of};
+ghost use Rattle.ssim_board.specs.internal.DaysThere.{days_after};
 
 use crate::local_time::LocalTime;
 use crate::movement::MovementKind;
@@ -41,6 +42,18 @@ pub(crate) fn time_of(mode: TimeMode, date: Day, leg: &LegColumns, kind: Movemen
             leg.arrival_variation(),
             leg.aircraft_arrival_time(),
         ),
+    }
+}
+
+/// How many days after the date of origin an end of a leg is, by its date variation.
+pub(crate) fn days_after(leg: &LegColumns, kind: MovementKind) -> u16
+    ensures value { result ≡ days_after leg.now kind }
+    ensures bound { result ≤ 9 }
+{
+    let [departure, arrival] = leg.date_variations();
+    match kind {
+        MovementKind::Departure => days_added(departure),
+        MovementKind::Arrival => days_added(arrival),
     }
 }
 
