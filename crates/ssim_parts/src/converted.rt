@@ -1,7 +1,7 @@
 //! The timetable in the other time mode.
 
 ghost use Rattle.std.specs.Prelude.{◌≡◌, ◌<◌, ◌≤◌, ◌+◌, ◌-◌, ◌∷◌, [], ℕ, length, IfOk};
-ghost use Rattle.std.specs.Prelude.{OnOk};
+ghost use Rattle.std.specs.Prelude.{OnOk, true};
 ghost use Rattle.std.specs.List.{AllByRecursion};
 ghost use Rattle.ssim_values.specs.Flight.{FlightNumber, IsFlight};
 ghost use Rattle.ssim_periods.specs.Days.{each_day};
@@ -24,7 +24,7 @@ use crate::moved_parts::moved_parts;
 use crate::moved_period::moved_period;
 use ssim_base::StationRow;
 use ssim_periods::{Change, Periods, Value};
-use ssim_schedule::{Itinerary, Schedule};
+use ssim_schedule::{Itinerary, PlacedLeg, Schedule};
 use ssim_values::{Flight, Memory, Period, TimeMode};
 use std::alloc::Global;
 use std::marker::Model;
@@ -112,14 +112,26 @@ fn exists(flight: Flight)
     let _ = (flight.number(), flight.suffix());
 }
 
-// No effect but the search of each itinerary. The proof reads from it that the legs of pieces are in
-// order.
+// No effect. The proof reads from it that the legs of pieces are in order: those of an itinerary of the
+// old timetable are, so none is searched for.
 fn look_at_each(old: &Schedule, flight: &Flight, pieces: &[(Period, Itinerary)])
     requires { pieces.now ≡ pieces_of same_itinerary [] (days_in old.now flight.now) }
     ensures { AllByRecursion (λ piece. Above 0 piece.1) pieces.now }
 {
     for piece in pieces {
-        let _ = old.itinerary(flight, piece.0.first());
+        if !are_above(0, piece.1.legs()) {
+            let _ = old.itinerary(flight, piece.0.first());
+        }
+    }
+}
+
+// Whether leg sequences rise from a number on.
+fn are_above(number: u8, legs: &[PlacedLeg]) -> bool
+    ensures { result ≡ true → Above number legs.now }
+{
+    match legs.split_first() {
+        None => true,
+        Some((leg, later)) => number < leg.sequence() && are_above(leg.sequence(), later),
     }
 }
 

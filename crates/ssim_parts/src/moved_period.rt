@@ -20,6 +20,9 @@ pub(crate) fn moved_period(period: &Period, shift: u8) -> Option<Period>
     ensures none { IfNone result ((m : ℕ) → m < 36525
         → came_from (holds period.now) shift m ≡ false) }
 {
+    if shift == 1 {
+        return Some(*period);
+    }
     let first = (period.first().number() + shift as u16).saturating_sub(1);
     let end = (period.last().number() + shift as u16).min(DAYS);
     if end <= first {

@@ -1,4 +1,4 @@
--- A piece has the itinerary of its first day, whose legs are in order.
+-- The legs of a piece are found in order, or are those of its first day in the old timetable, which are.
 use Rattle.std.proofs.Common.{◌≡◌, ◌∙◌, ◌+◌, ◌++◌, ℕ, [], ◌∷◌, ◌≤◌, ◌<◌, length, take, sym, ap, subst}
 use Rattle.std.proofs.Common.{true}
 use Rattle.std.proofs.Common.{get_or}
@@ -13,6 +13,7 @@ use Rattle.ssim_base.specs.clauses.ItineraryLaws.{exact_itinerary}
 use Rattle.ssim_base.specs.Timetable.{Above, on_day}
 use Rattle.ssim_schedule.specs.clauses.Schedule.{days_in}
 use Rattle.ssim_parts.proofs.Parting.{all_both, piece_at}
+use Rattle.ssim_parts.proofs.converted.look_at_each.Goals.{then-not-are_above, else-not-are_above}
 use Rattle.ssim_parts.proofs.converted.look_at_each.Goals as goal
 
 pub loop-piece-preserved : goal.loop-piece-preserved
@@ -39,11 +40,17 @@ loop-piece-preserved c =
     let has : piece.1 ≡ on_day days first =
     ap (λ (p : Piece). p.1) c.piece-item.is
     ∙ piece_at pieces i piece first (on_day days first) within held (law.on_each_day first) in
-    let legs : c.itinerary.result.now ≡ piece.1 =
-    c.itinerary.ensures.value ∙ ap (on_day days) c.first.ensures.value ∙ sym has in
+    let in_order : Above 0 piece.1 = elim c.if-not-are_above.branch [
+      | then-not-are_above w ↦
+          let legs : w.itinerary.result.now ≡ piece.1 =
+          w.itinerary.ensures.value ∙ ap (on_day days) w.first.ensures.value ∙ sym has in
+          subst (Above 0) legs w.itinerary.ensures.in_order
+      | else-not-are_above w ↦
+          subst (Above 0) c.legs.ensures (c.are_above.ensures w.if-not-are_above.false)
+    ] in
     subst (AllByRecursion (λ piece. Above 0 piece.1)) (sym more)
     (all_both (λ (p : Piece). Above 0 p.1) (take i pieces) (piece ∷ []) c.loop-piece.invariant
-    (subst (Above 0) legs c.itinerary.ensures.in_order, tt))
+    (in_order, tt))
 
 pub returns : goal.returns
 returns c =
