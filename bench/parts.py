@@ -1,8 +1,9 @@
 #!/usr/bin/env python3
-"""Counts the instructions of `select`, `convert` and `carry` beside those of like commands: parts.py PROGRAM [FOLDER]
+"""Counts the instructions of `select`, `convert`, `board --days` and `carry` beside those of like commands: parts.py PROGRAM [FOLDER]
 
 - `select` by each kind of choice, and `convert` to both time modes, beside `tidy` of the same data set of 90,003 records in UTC: one record a
   date, and weekly strips (make/shapes.py). Beside `convert` is also `tidy` of its data set: the two of `tidy` together read and write as much.
+- `board` of seven dates beside `board` of one, of the same data sets, at a station at which all flights are and at one at which none is.
 - `carry` beside `merge`, of two desks over the first of these data sets: each holds 1,500 texts, which change the equipment of other flights.
 
 A line has the ratio of the instructions of two whole runs, by callgrind, also on a busy machine.
@@ -55,6 +56,13 @@ def count_parts(counts, title, name):
         print(f"| {title}: `convert {mode}` | {converted / tidied:.2f}, of both {converted / (tidied + again):.2f} |", flush=True)
 
 
+def count_boards(counts, title, name):
+    """`board` of seven dates beside `board` of one."""
+    for flights, station in ("all flights are", "ABX"), ("none is", "ZZZ"):
+        one, seven = (counts.of("board", *options, name, station, "01JUL25") for options in ([], ["--days", "7"]))
+        print(f"| {title}: `board --days 7`, a station at which {flights} | {seven / one:.2f} |", flush=True)
+
+
 def count_desks(counts, name):
     """`carry` beside `merge`."""
     texts, _ = write_texts(counts.folder, name, TEXTS)
@@ -72,6 +80,7 @@ def main():
     names = {title: counts.data_set(*shape) for title, shape in SHAPES.items()}
     for title, name in names.items():
         count_parts(counts, title, name)
+        count_boards(counts, title, name)
     count_desks(counts, names["one record a date"])
 
 
