@@ -317,9 +317,10 @@ macro_rules! request {
 /// The request of the row of a command.
 macro_rules! request_of {
     (($of:expr, $given:tt)
-        $($name:literal $words:tt => $request:ident $fields:tt $about:literal $example:literal)+) => {
+        $($($name:literal $words:tt => $request:ident $fields:tt
+        $about:literal $example:literal)+);+) => {
         match $of {
-            $(CommandName::$request => request!($given $request $fields),)+
+            $($(CommandName::$request => request!($given $request $fields),)+)+
         }
     };
 }

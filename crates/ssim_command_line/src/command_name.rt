@@ -39,9 +39,10 @@ pub(crate) enum CommandName {
 /// The command of the row that has the name.
 macro_rules! name_of {
     (($of:expr)
-        $($name:literal $words:tt => $command:ident $fields:tt $about:literal $example:literal)+) => {
+        $($($name:literal $words:tt => $command:ident $fields:tt
+        $about:literal $example:literal)+);+) => {
         match $of {
-            $($name => Some(CommandName::$command),)+
+            $($($name => Some(CommandName::$command),)+)+
             _ => None,
         }
     };

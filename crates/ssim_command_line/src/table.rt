@@ -69,7 +69,8 @@ explain NUMBER' says more); 2 if the words are no command.
 /// request that its values make, with the texts after the values and a field for its options, what
 /// it does, and an example with what it prints and the exit status.
 ///
-/// `commands!(rows of given)` is `rows!` of what is given and of all the rows.
+/// `commands!(rows of given)` is `rows!` of what is given and of all the rows. They are in two groups,
+/// with a `;` between them: the help of all would be too long for one constant.
 macro_rules! commands {
     ($rows:ident of $given:tt) => {
         $rows! { $given
@@ -289,6 +290,7 @@ prints the departures of a week, each date under a heading of station and date.
 Between two dates is an empty line. N is 1 to 366; no date is after 31DEC99.
 Exit status: 0, also with 'no flight'; 1 if the file is refused, STATION is no
 station (3), or DATE is no date (1)."
+        ;
         "calendar" [First("FILE"), Several("FLIGHT"), Valued("from", "DATE"), Valued("to", "DATE"),
             Repeated("station", "STATION"), Repeated("aircraft", "TYPE")]
             => Calendar(file; flights+; choice = choice_of)
@@ -486,9 +488,9 @@ the file cannot be read."
 pub(crate) use commands;
 
 macro_rules! rows {
-    (() $($name:literal [$($word:expr),+] => $request:ident $fields:tt
-        $about:literal $example:literal)+) => {
-        &[$(CommandRow { name: $name, words: &[$($word),+] }),+]
+    (() $($($name:literal [$($word:expr),+] => $request:ident $fields:tt
+        $about:literal $example:literal)+);+) => {
+        &[$($(CommandRow { name: $name, words: &[$($word),+] }),+),+]
     };
 }
 
