@@ -1,0 +1,16 @@
+//! What a timetable has as a whole.
+//!
+//! - [`Totals`]: how many flights, stations and flight dates it has, and its first and last date.
+//!
+//! A timetable is given as the flights that fly, each with its pieces, as `Schedule::into_flights`
+//! has them. The only error is [`Memory`].
+//!
+//! **Promise.** What is counted over the periods of pieces is what the definitions count date by
+//! date, neither more nor less.
+#![tactic(auto)]
+
+mod station_marks;
+mod totals;
+
+pub use ssim_values::Memory;
+pub use totals::Totals;
