@@ -17,7 +17,7 @@ use Rattle.ssim_command_line.specs.Line.{several_texts, span_of, span_words}
 use Rattle.ssim_command_line.specs.Line.{two_values, values_in}
 use Rattle.ssim_command_line.specs.Line.{Board, Calendar, Check, Diff, Explain, Export, Findings, History, Listing}
 use Rattle.ssim_command_line.specs.Line.{Merge, Page, Problems, Publish, Receive, Rehearse, Select, Show, Start}
-use Rattle.ssim_command_line.specs.Line.{Carry, Convert, Split, Take, Texts, Tidy, Withdraw, mode_and_two}
+use Rattle.ssim_command_line.specs.Line.{Carry, Convert, Info, Split, Take, Texts, Tidy, Withdraw, mode_and_two}
 use Rattle.ssim_command_line.specs.declared.board_form.BoardForm.{BoardForm}
 use Rattle.ssim_command_line.specs.declared.command_line.ModeWord.{ModeWord}
 use Rattle.ssim_command_line.specs.Usage.{bare_program, leaf}
@@ -349,6 +349,7 @@ readers =
     ∷ record { row = list_row; reads = list_read }
     ∷ record { row = board_row; reads = board_read }
     ∷ record { row = calendar_row; reads = calendar_read }
+    ∷ with_one (codes "info") Info
     ∷ with_two (codes "diff") Diff
     ∷ record { row = command (codes "publish") four_values (four Publish); reads = four_plain (codes "publish") Publish }
     ∷ record { row = page_row; reads = page_read }

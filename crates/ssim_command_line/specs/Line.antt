@@ -52,6 +52,7 @@ pub data Line : Type 0 where
   Board : (form : BoardForm) (file station date : Text) → Line
   Listing : (form : ListForm) (choice : ChoiceTexts) (file : Text) (flights : List Text) → Line
   Calendar : (choice : ChoiceTexts) (file : Text) (flights : List Text) → Line
+  Info : (file : Text) → Line
   Page : (from : Option Text) (file : Text) → Line
   Diff : (from to : Text) → Line
   Publish : (from to reference out : Text) → Line
@@ -103,6 +104,7 @@ line_of (request.List form choice file flights) =
     Listing form (choice_line choice) file.now (map (λ t. t.now) flights.items)
 line_of (request.Calendar choice file flights) =
     Calendar (choice_line choice) file.now (map (λ t. t.now) flights.items)
+line_of (request.Info file) = Info file.now
 line_of (request.Page from file) = Page (option_map (λ f. f.now) from) file.now
 line_of (request.Diff from to) = Diff from.now to.now
 line_of (request.Publish from to reference out) = Publish from.now to.now reference.now out.now
@@ -343,6 +345,7 @@ commands =
       words = one_value ++ several_texts ∷ choice_words;
       make = λ rows. one_and_several (Calendar (choice_of rows));
     }
+    ∷ command (codes "info") one_value (one Info)
     ∷ command (codes "diff") two_values (two Diff)
     ∷ command (codes "publish") four_values (four Publish)
     ∷ command (codes "page") one_or_two_values (one_or_two Page)

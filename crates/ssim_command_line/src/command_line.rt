@@ -153,6 +153,10 @@ pub enum Request<'a> {
         file: &'a str,
         flights: Vec<&'a str>,
     },
+    /// Print what a desk or a data set is, and how much it has.
+    Info {
+        file: &'a str,
+    },
     /// Print the timetable of a desk or a data set as a page of HTML, with its changes from another
     /// timetable, if one is named.
     Page {

@@ -24,6 +24,7 @@ pub(crate) enum CommandName {
     List,
     Board,
     Calendar,
+    Info,
     Diff,
     Publish,
     Page,

@@ -57,7 +57,7 @@ The commands by what they are for:
   each day:   receive, take, board, show, list, calendar, page, diff, history
   a desk:     start, texts, findings, withdraw, merge, carry, export, publish
   a data set: check, problems, tidy, select, convert, split
-  also:       explain, rehearse
+  also:       info, explain, rehearse
 
 For each file that is read, - is standard input.
 Exit status: 0 if the command was done; 1 if it was refused, with a line
@@ -313,6 +313,16 @@ it is the calendar of 'select'.
 Exit status: 0, also if there is no flight; 1 if the file is refused, a word is
 no flight (6), station (3), aircraft type (25) or date (1), the airline is
 another one (41), or --from is after --to (43)."
+        "info" [First("FILE")] => Info(file)
+        "Print what a desk or a data set is, and how much it has"
+        "\
+Example:
+  ssimdesk info fdh.desk
+prints lines such as
+  flights 42
+for: kind, airline, season, validity, mode, created and records; flights,
+stations, dates, first and last; of a desk also rows, messages and latest.
+Exit status: 0; 1 if the file is refused."
         "diff" [First("FROM"), Second("TO")] => Diff(from, to)
         "Print on which dates two timetables differ, and how"
         "\

@@ -42,7 +42,7 @@ use Rattle.ssim_difference.specs.Lines.{difference_lines}
 use Rattle.ssim_outbox.specs.Comparable.{RefusesCarriers}
 use Rattle.ssim_outbox.specs.declared.fault.OutboxFault.{OutboxFault}
 use Rattle.ssim_command_line.specs.Line.{Text, Texts, Withdraw, Show, History, Board, Diff}
-use Rattle.ssim_command_line.specs.Line.{Check, Findings, Export, Page}
+use Rattle.ssim_command_line.specs.Line.{Check, Findings, Export, Info, Page}
 use Rattle.ssim_command_line.specs.Line.{Problems as ProblemsOf, Tidy}
 use Rattle.ssim_command_line.specs.declared.board_form.BoardForm.{BoardForm}
 use Rattle.ssim_program.specs.Acts.{Act, Print, printed_by, prints}
@@ -58,13 +58,16 @@ use Rattle.ssim_program.specs.Made.{problems_in, summary_lines}
 use Rattle.ssim_program.specs.Messages.{IsOf, but_last, flights_on, last_of, message_texts}
 use Rattle.ssim_program.specs.Messages.{messages_on}
 use Rattle.ssim_program.specs.Offices.{IsSameFile}
-use Rattle.ssim_program.specs.Timetables.{HasCarrier, carrier_of, shown_in, timetable_in}
+use Rattle.ssim_program.specs.Timetables.{HasCarrier, carrier_of, known_in, shown_in, timetable_in}
 use Rattle.ssim_program.specs.Withdrawing.{Withdraws}
 use Rattle.ssim_program.specs.print.Board.{printed_board}
+use Rattle.ssim_program.specs.print.Info.{info_lines}
 use Rattle.ssim_program.specs.print.PrintedLine.{printed_text}
 use Rattle.ssim_program.specs.print.Refusal.{IsMemory, refusal_number}
 use Rattle.ssim_program.specs.print.Blocks.{blocks}
 use Rattle.ssim_program.specs.print.Shown.{findings_lines, history_on, shown_on}
+use Rattle.ssim_program.specs.declared.explain.file_kind.FileKind.{FileKind}
+use Rattle.ssim_program.specs.declared.explain.file_kind.FileKind.TheVariants as kind
 use Rattle.ssim_program.specs.declared.print.printed_line.PrintedLine.TheVariants as printed_line
 use Rattle.ssim_program.specs.declared.refusal.Refusal.{Refusal}
 use Rattle.ssim_program.specs.declared.refusal.Refusal.TheVariants as refused
@@ -73,8 +76,8 @@ use Rattle.ssim_program.proofs.Alike.{Equal, Nothing, finds_alike, gives_alike, 
 use Rattle.ssim_program.proofs.Alike.{or_else_alike, prints_alike, require_alike, then_alike}
 use Rattle.ssim_program.proofs.OneCount.{one_count}
 use Rattle.ssim_program.proofs.Origins.{same_some}
-use Rattle.ssim_program.proofs.SameReading.{SameDesk, data_set_alike, desk_alike, problems_alike}
-use Rattle.ssim_program.proofs.SameReading.{shown_alike, timetable_alike}
+use Rattle.ssim_program.proofs.SameReading.{SameDesk, SameKnown, data_set_alike, desk_alike, known_alike}
+use Rattle.ssim_program.proofs.SameReading.{problems_alike, shown_alike, timetable_alike}
 use Rattle.ssim_program.proofs.Withdrawing.{printed_once}
 
 -- ---- words
@@ -361,6 +364,19 @@ differing_lines old new mine theirs =
 abbrev changed : Made
 changed old new mine theirs = desk_page theirs (days_of_desk old) new
 
+-- what is said of a file hangs on the base and the messages of its desk alone
+seen_lines : (k : FileKind) (carrier : CarrierFields) (desk : DeskSeen)
+    → info_lines k carrier desk ≡ info_lines k carrier (seen desk.base desk.held)
+seen_lines kind.Desk carrier desk = refl
+seen_lines kind.DataSet carrier desk = refl
+seen_lines kind.Script carrier desk = refl
+seen_lines kind.Message carrier desk = refl
+seen_lines kind.Stations carrier desk = refl
+
+abbrev info_of : FileKind × DeskSeen → Answer (List ℕ)
+info_of known =
+    carrier_of known.1.base.records >>= (λ carrier. Gives (info_lines known.0 carrier known.1))
+
 pub records_same : (desk other : DeskSeen) → SameDesk desk other
     → desk.base.records ≡ other.base.records
 records_same desk other one = ap (λ (b : BaseSeen). b.records) one.0
@@ -445,6 +461,25 @@ module _ (frames : FramesAreOne) (one_base : SameBytesSameBase) (no_two : NoTwoD
       (carrier_alike desk.base.records other.base.records (records_same desk other one))
       (λ carrier those both. gives_alike (lines desk carrier) (lines other those)
       (λ i. lines (seen (one.0 i) (one.1 i)) (both i))))
+
+  pub info_alike : DoesTheSame Info
+  info_alike files others name another same =
+      let mine = known_in (Some files) name in
+      let theirs = known_in (Some others) another in
+      prints_alike (mine >>= info_of) (theirs >>= info_of)
+      (then_alike SameKnown Equal mine theirs info_of info_of
+      (known_alike files others name another same frames one_base no_two)
+      (λ known other one. then_alike Equal Equal (carrier_of known.1.base.records)
+      (carrier_of other.1.base.records)
+      (λ carrier. Gives (info_lines known.0 carrier known.1))
+      (λ carrier. Gives (info_lines other.0 carrier other.1))
+      (carrier_alike known.1.base.records other.1.base.records
+      (records_same known.1 other.1 one.1))
+      (λ carrier those both. gives_alike (info_lines known.0 carrier known.1)
+      (info_lines other.0 those other.1)
+      (seen_lines known.0 carrier known.1
+      ∙ (λ i. info_lines (one.0 i) (both i) (seen (one.1.0 i) (one.1.1 i)))
+      ∙ sym (seen_lines other.0 those other.1)))))
 
   between_alike : (made : Made) → IsOfDesks made → (old first new second : DeskSeen)
       → SameDesk old first → SameDesk new second → (mine ours theirs others : CarrierFields)

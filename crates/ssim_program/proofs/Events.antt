@@ -211,6 +211,8 @@ module _ (old new : Files) (acts done later : List Act) (split : acts ≡ done +
       looks _ old new acts done later split left (ap kept_by are)
   of_line (line.Calendar words file flights) (bytes, is, are) =
       looks _ old new acts done later split left (ap kept_by are)
+  of_line (line.Info file) (bytes, is, are) =
+      looks _ old new acts done later split left (ap kept_by are)
   of_line (line.Page from file) (bytes, is, are) =
       looks _ old new acts done later split left (ap kept_by are)
   of_line (line.Diff from to) (bytes, is, are) =

@@ -22,8 +22,8 @@ use Rattle.ssim_program.specs.Files.{Files}
 use Rattle.ssim_program.specs.Made.{HasFile, IsMissing, IsOfBytes, ReadsFile, RefusesFile, RefusesLoad}
 use Rattle.ssim_program.specs.Made.{data_set_in, file_in, file_limit, problems_in}
 use Rattle.ssim_program.specs.Offices.{IsSameFile}
-use Rattle.ssim_program.specs.Timetables.{BeginsAs, ReadsAsDesk, ReadsTimetable, RefusesAs}
-use Rattle.ssim_program.specs.Timetables.{RefusesReading, no_desk_file, shown_in, timetable_in}
+use Rattle.ssim_program.specs.Timetables.{BeginsAs, ReadsAs, ReadsAsDesk, ReadsTimetable, RefusesAs}
+use Rattle.ssim_program.specs.Timetables.{RefusesReading, known_in, no_desk_file, shown_in, timetable_in}
 use Rattle.ssim_program.specs.Timetables.{timetable_kind}
 use Rattle.ssim_program.specs.declared.explain.file_kind.FileKind.{FileKind}
 use Rattle.ssim_program.specs.declared.explain.file_kind.FileKind.TheVariants as kind
@@ -34,10 +34,15 @@ use Rattle.ssim_program.proofs.Alike.{Equal, then_alike}
 use Rattle.ssim_program.proofs.FirstProblem.{fault_in}
 use Rattle.ssim_program.proofs.OneOutcome.{one_outcome}
 use Rattle.ssim_program.proofs.Origins.{same_some}
+use Rattle.ssim_program.proofs.Timetables.{as_timetable, begins_as}
 
 -- desks with one base and the same messages
 abbrev pub SameDesk : DeskSeen → DeskSeen → Type 0
 SameDesk desk other = (desk.base ≡ other.base) × (desk.held ≡ other.held)
+
+-- files of one kind, and such desks
+abbrev pub SameKnown : FileKind × DeskSeen → FileKind × DeskSeen → Type 0
+SameKnown known other = (known.0 ≡ other.0) × SameDesk known.1 other.1
 
 -- bytes within the limit are no other bytes
 abbrev pub SameWithin : List ℕ → List ℕ → Type 0
@@ -312,6 +317,25 @@ module _ (files others : Files) (name another : Text) (same : IsSameFile files n
           refusals = faults refused.DataSet;
           first = first refused.DataSet;
           second = second refused.DataSet;
+        }
+
+        one_known : (known other : FileKind × DeskSeen) → ReadsAs known.0 (Some files) name known.1
+            → ReadsAs other.0 (Some others) another other.1 → SameKnown known other
+        one_known known other is are = (
+          sym (kind_here known.0 (begins_as known.0 (Some files) name known.1 is))
+              ∙ kind_there other.0 (begins_as other.0 (Some others) another other.1 are),
+          one_timetable known.1 other.1 (as_timetable known.0 (Some files) name known.1 is)
+              (as_timetable other.0 (Some others) another other.1 are),
+        )
+
+        pub known_alike : AreAlike SameKnown (known_in (Some files) name) (known_in (Some others) another)
+        known_alike = record {
+          values = one_known;
+          refusals = faults refused.DataSet;
+          first = λ known that is. first refused.DataSet known.1 that
+              (as_timetable known.0 (Some files) name known.1 is);
+          second = λ why other p are. second refused.DataSet why other.1 p
+              (as_timetable other.0 (Some others) another other.1 are);
         }
 
         pub shown_alike : AreAlike SameDesk (shown_in (Some files) name)

@@ -29,7 +29,7 @@ use Rattle.ssim_command_line.specs.Line.{Withdraw}
 use Rattle.ssim_command_line.specs.Line.{Carry, ChoiceTexts, SpanTexts}
 use Rattle.ssim_command_line.specs.Line.{Receive, Texts, Show, History, Calendar, Findings, Export}
 use Rattle.ssim_command_line.specs.Line.{Rehearse, Explain, Page, Board, Diff, Publish, Listing}
-use Rattle.ssim_command_line.specs.Line.{Convert, Select, Split}
+use Rattle.ssim_command_line.specs.Line.{Convert, Info, Select, Split}
 use Rattle.ssim_command_line.specs.declared.board_form.BoardForm.{BoardForm}
 use Rattle.ssim_command_line.specs.declared.command_line.ListForm.{ListForm}
 use Rattle.ssim_command_line.specs.declared.command_line.ModeWord.{ModeWord}
@@ -49,12 +49,13 @@ use Rattle.ssim_program.specs.Places.{place_in}
 use Rattle.ssim_program.specs.Splitting.{split}
 use Rattle.ssim_program.specs.Spans.{dates_alone, has_end, lines_found}
 use Rattle.ssim_program.specs.Receiving.{places_in, receipt_lines, received, received_files}
-use Rattle.ssim_program.specs.Timetables.{carrier_of, shown_in, timetable_in}
+use Rattle.ssim_program.specs.Timetables.{carrier_of, known_in, shown_in, timetable_in}
 use Rattle.ssim_program.specs.Withdrawing.{withdrawn}
 use Rattle.ssim_program.specs.rehearse.Rehearsal.{RehearsesFiles, RefusesLines}
 use Rattle.ssim_program.specs.print.Blocks.{blocks}
 use Rattle.ssim_program.specs.print.Board.{printed_board}
 use Rattle.ssim_program.specs.print.Calendar.{calendars}
+use Rattle.ssim_program.specs.print.Info.{info_lines}
 use Rattle.ssim_program.specs.print.Listing.{printed_list}
 use Rattle.ssim_program.specs.print.Page.{message_articles}
 use Rattle.ssim_program.specs.print.Shown.{findings_lines, history_on, shown_on}
@@ -237,6 +238,13 @@ calendar files words file flights = do
   Gives (calendars (airline_of desk.base.records) (chosen_days choice (days_of_desk desk))
       (in_order choice.flights))
 
+-- what a file is: its kind, its carrier record, and how much it has
+abbrev pub info : Option Files → Text → Answer (List ℕ)
+info files file = do
+  known ← known_in files file
+  carrier ← carrier_of known.1.base.records
+  Gives (info_lines known.0 carrier known.1)
+
 -- the airline, the season in columns 11 to 13, and the time mode of a carrier record
 abbrev pub heading_of : CarrierFields → PageHeading
 heading_of r = record {
@@ -342,6 +350,7 @@ answers (History file flight words) files = prints (history files file flight wo
 answers (Board form file station date) files = prints (board files form file station date)
 answers (Listing form words file flights) files = prints (list files form words file flights)
 answers (Calendar words file flights) files = prints (calendar files words file flights)
+answers (Info file) files = prints (info files file)
 answers (Page from file) files = prints (page files from file)
 answers (Diff from to) files = prints (diff files from to)
 answers (Publish from to reference out) files = publish files from to reference out

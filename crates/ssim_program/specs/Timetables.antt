@@ -38,12 +38,19 @@ ReadsAsDesk files name desk =
     (records : List Record) × (notes : List Note) × ReadsFile files name (Ok (records, notes))
     × (desk.base ≡ base_with records []) × (desk.held ≡ [])
 
--- The file of this name has the timetable of this desk: it begins as a desk file, and is
--- the desk's; or it is a data set, and the desk is the data set's.
+-- The file of this name is of a kind and has the timetable of this desk: it begins as a desk file, and
+-- is the desk's; or it is a data set, and the desk is the data set's.
+abbrev pub ReadsAs : FileKind → Option Files → Text → DeskSeen → Type 0
+ReadsAs kind.Desk files name desk =
+    BeginsAs kind.Desk files name × desk_in files name (Ok desk)
+ReadsAs kind.DataSet files name desk =
+    BeginsAs kind.DataSet files name × ReadsAsDesk files name desk
+ReadsAs _ files name desk = ⊥
+
+-- the file of this name has the timetable of this desk: as a desk file, or as a data set
 abbrev pub ReadsTimetable : Option Files → Text → DeskSeen → Type 0
 ReadsTimetable files name desk =
-    (BeginsAs kind.Desk files name × desk_in files name (Ok desk))
-    ⊎ (BeginsAs kind.DataSet files name × ReadsAsDesk files name desk)
+    ReadsAs kind.Desk files name desk ⊎ ReadsAs kind.DataSet files name desk
 
 -- Why a file is not read to its end, or is no desk: it is not loaded; or it begins as a desk file, and
 -- is none (62).
@@ -71,6 +78,11 @@ RefusesTimetable = RefusesAs refused.DataSet
 abbrev pub timetable_in : Option Files → Text → Answer DeskSeen
 timetable_in files name (Ok desk) = ReadsTimetable files name desk
 timetable_in files name (Err why) = RefusesTimetable files name why
+
+-- the kind of the file of this name, and the desk whose timetable it has
+abbrev pub known_in : Option Files → Text → Answer (FileKind × DeskSeen)
+known_in files name (Ok known) = ReadsAs known.0 files name known.1
+known_in files name (Err why) = RefusesTimetable files name why
 
 -- a file that is neither a desk file nor a data set is no desk file (62)
 abbrev pub no_desk_file : BaseFault → Refusal

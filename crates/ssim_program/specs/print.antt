@@ -7,5 +7,6 @@ pub mod Listing
 pub mod Blocks
 pub mod Board
 pub mod Calendar
+pub mod Info
 pub mod Paper
 pub mod Page

@@ -18,6 +18,7 @@ pub(crate) mod export;
 pub(crate) mod findings;
 pub(crate) mod flight_order;
 pub(crate) mod history;
+pub(crate) mod info;
 pub(crate) mod list;
 pub(crate) mod merge;
 pub(crate) mod named_flights;
@@ -129,6 +130,7 @@ pub(crate) fn make<'r, S: Store>(
             file,
             flights,
         } => lines(calendar::calendar(alloc, choice, file, flights, store)),
+        Request::Info { file } => lines(info::info(alloc, file, store)),
         Request::Page { from, file } => lines(page::page(alloc, *from, file, store)),
         Request::Diff { from, to } => lines(diff::diff(alloc, from, to, store)),
         Request::Findings {

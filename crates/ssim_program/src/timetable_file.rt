@@ -3,11 +3,13 @@
 ghost use Rattle.std.specs.Prelude.{◌≡◌, Err, IfErr, IfOk, IfSome, Option};
 ghost use Rattle.ssim_program.specs.Files.{Files, IsOpened};
 ghost use Rattle.ssim_program.specs.Made.{IsOfBytes, ReadsFile, RefusesLoad};
-ghost use Rattle.ssim_program.specs.Timetables.{HasCarrier, HasFault, ReadsAsDesk, ReadsTimetable};
-ghost use Rattle.ssim_program.specs.Timetables.{RefusesReading, RefusesTimetable, shown_in};
+ghost use Rattle.ssim_program.specs.Timetables.{HasCarrier, HasFault, ReadsAs, ReadsAsDesk};
+ghost use Rattle.ssim_program.specs.Timetables.{ReadsTimetable, RefusesReading, RefusesTimetable};
+ghost use Rattle.ssim_program.specs.Timetables.{known_in, shown_in};
 
 use crate::data_set::{open_file, read_opened};
 use crate::desk_file::read_desk;
+use crate::explain::file_kind::FileKind;
 use crate::refusal::Refusal;
 use crate::store::Store;
 use ssim_base::{BaseFault, Stations};
@@ -29,7 +31,25 @@ pub(crate) fn open_timetable<S: Store>(
 {
     let file = open_file(alloc, name, store)?;
     match read_timetable(alloc, name, file) {
-        Ok(Ok(desk)) => Ok(desk),
+        Ok(Ok((_, desk))) => Ok(desk),
+        Ok(Err(fault)) => Err(Refusal::from(fault)),
+        Err(refusal) => Err(refusal),
+    }
+}
+
+/// The kind of the file of this name, and the desk of `open_timetable`.
+pub(crate) fn open_known<S: Store>(
+    alloc: Global,
+    name: &str,
+    store: &mut S,
+) -> Result<(FileKind, Holdings), Refusal>
+    ensures answer { known_in (S.files store.old) name.now result }
+    ensures same { S.files store.new ≡ S.files store.old }
+    ensures counted { S.failures store.new ≡ S.failures store.old }
+{
+    let file = open_file(alloc, name, store)?;
+    match read_timetable(alloc, name, file) {
+        Ok(Ok((kind, desk))) => Ok((kind, desk)),
         Ok(Err(fault)) => Err(Refusal::from(fault)),
         Err(refusal) => Err(refusal),
     }
@@ -48,21 +68,21 @@ pub(crate) fn open_shown<S: Store>(
 {
     let file = open_file(alloc, name, store)?;
     match read_timetable(alloc, name, file) {
-        Ok(Ok(desk)) => Ok(desk),
+        Ok(Ok((_, desk))) => Ok(desk),
         Ok(Err(_)) => Err(Refusal::from(DeskFault::File(0))),
         Err(refusal) => Err(refusal),
     }
 }
 
-/// The desk whose timetable a file has that was opened under this name: a desk file if it begins as
-/// one, and else a data set, or its fault.
+/// The kind of a file that was opened under this name, a desk file if it begins as one and else a data
+/// set, and the desk whose timetable it has; or the fault of a data set.
 fn read_timetable<F: Source + Drop>(
     alloc: Global,
     name: &str,
     file: F,
-) -> Result<Result<Holdings, BaseFault>, Refusal>
+) -> Result<Result<(FileKind, Holdings), BaseFault>, Refusal>
     ensures read { (files : Option Files) → IsOpened files name.now (F.state file).left
-        → IfOk result (λ read. IfOk read (ReadsTimetable files name.now)) }
+        → IfOk result (λ read. IfOk read (λ known. ReadsAs known.0 files name.now known.1)) }
     ensures fault { (files : Option Files) → IsOpened files name.now (F.state file).left
         → IfOk result (λ read. IfErr read (HasFault files name.now)) }
     ensures refused { (files : Option Files) → IsOpened files name.now (F.state file).left
@@ -72,10 +92,14 @@ fn read_timetable<F: Source + Drop>(
     let mut file = Peekable::new(file);
     match file.begins_with(b"SSIMDESK ") {
         Ok(true) => match read_desk(alloc, name, file) {
-            Ok(desk) => Ok(Ok(desk)),
+            Ok(desk) => Ok(Ok((FileKind::Desk, desk))),
             Err(refusal) => Err(refusal),
         },
-        Ok(false) => read_data_set(alloc, name, file),
+        Ok(false) => match read_data_set(alloc, name, file) {
+            Ok(Ok(desk)) => Ok(Ok((FileKind::DataSet, desk))),
+            Ok(Err(fault)) => Ok(Err(fault)),
+            Err(refusal) => Err(refusal),
+        },
         Err(_) => Err(Refusal::of_file(alloc, name)),
     }
 }

@@ -170,6 +170,12 @@ returns-in-Calendar-clause-answer g c = let old = g.S.Store.files c.args.store.n
     c.calendar.ensures.answer)
     c.lines-in-Calendar.ensures)
 
+pub returns-in-Info-clause-answer : goal.returns-in-Info-clause-answer
+returns-in-Info-clause-answer g c = let old = g.S.Store.files c.args.store.now in
+    made_of _ _ _ _ _ c.in-Info.is
+    (lines_of g.S.Hold.Hold.file old (answer.info old c.in-Info.file.now) c.info.result
+    c.lines-in-Info.result c.info.ensures.answer c.lines-in-Info.ensures)
+
 pub returns-in-Page-clause-answer : goal.returns-in-Page-clause-answer
 returns-in-Page-clause-answer g c = let old = g.S.Store.files c.args.store.now in
     made_of _ _ _ _ _ c.in-Page.is

@@ -1,5 +1,5 @@
 use Rattle.ssim_program.proofs.EqualFiles.{board_alike, changed_page_alike, diff_alike}
-use Rattle.ssim_program.proofs.EqualFiles.{history_alike, page_alike, show_alike}
+use Rattle.ssim_program.proofs.EqualFiles.{history_alike, info_alike, page_alike, show_alike}
 use Rattle.ssim_program.proofs.EqualConversions.{convert_same}
 use Rattle.ssim_program.proofs.EqualParts.{calendar_alike, list_alike, select_alike}
 use Rattle.ssim_program.proofs.laws.equal_timetables_do_the_same.Goals as goal
@@ -15,6 +15,7 @@ returns c =
       board = board_alike frames one_base no_two;
       list = list_alike frames one_base no_two;
       calendar = calendar_alike frames one_base no_two;
+      info = info_alike frames one_base no_two;
       page = page_alike frames one_base no_two;
       select = select_alike frames one_base no_two;
       convert = convert_same frames one_base no_two;
