@@ -13,6 +13,9 @@ board, in its order.
 A case of `spans` has a desk with some messages, whose dates the model of `carry` finds in the desk file. With a span `findings` has to count what
 `history` says of each of these dates, and `texts` has to print the messages that follow from them. `findings` to a date and from the next one
 on have together the numbers of all. In a case of `span words` some words of the two commands are invalid.
+
+In a case of `info` the file is a data set or a desk with some messages. What `info` prints has to follow from its carrier record, its lines
+and its flight dates; and where it is refused, `list` is refused for the same.
 """
 import copy
 import datetime
@@ -22,11 +25,11 @@ import carry
 import messages
 import parts
 import small
-from chapter7 import DAY, date, dates_of
+from chapter7 import DAY, FILL, OPEN_END, date, dates_of
 from flight_dates import Timetable, board, calendar, listed, listed_dates, rows
 from room import Answer, said
 
-KINDS = ["choice", "choice", "choice", "several", "boards", "words", "spans", "spans", "span words"]
+KINDS = ["choice", "choice", "choice", "several", "boards", "words", "spans", "spans", "span words", "info"]
 REASONS = ["acted", "absent", "present", "leg", "station"]
 # The most dates that are looked at one by one.
 MANY = 60
@@ -347,7 +350,56 @@ def of_board_words(rng, room, table):
             yield f"board {option} {words}", room("board", *option, "FILE", *words), Answer(1, b"", f"refused {fault}\n")
 
 
+# ---- info
+
+def file_lines(data):
+    """The records of a data set or a desk file, and for a desk its station rows and the model of what it holds."""
+    if not data.startswith(b"SSIMDESK "):
+        data = re.sub(rb"[\r\n]", b"", data)
+        return [block for block in (data[at : at + 200] for at in range(0, len(data), 200)) if block != FILL], None, None
+    lines = data.split(b"\n")
+    count = int(lines[1].split()[1])
+    return lines[2 : count + 2], int(lines[count + 2].split()[1]), carry.Desk(data)
+
+
+def carrier_lines(carrier):
+    """What `info` prints of a carrier record."""
+    base, text = carry.base_of(carrier), carrier.decode("latin-1")
+    opened = " open" * (text[21:28] == OPEN_END)
+    return [f"airline {base.airline}", f"season {text[10:13].replace(' ', '.')}", f"validity {date(base.first)} {date(base.last)}{opened}",
+            f"mode {'utc' if base.mode == 'UTC' else 'local'}", f"created {date(base.created)}"]
+
+
+def total_lines(table):
+    """What `info` prints of a timetable."""
+    flown = sorted(day for days in table.flights.values() for day in days)
+    stations = {leg.at(*end) for days in table.flights.values() for legs in days.values() for leg in legs for end in ((37, 39), (55, 57))}
+    ends = [f"first {date(flown[0])}", f"last {date(flown[-1])}"] if flown else []
+    return [f"flights {len(table.flights)}", f"stations {len(stations)}", f"dates {len(flown)}", *ends]
+
+
+def of_info(room):
+    """What is compared of a file."""
+    answer, whole = room("info", "FILE"), room.exported("FILE")
+    if whole is None:
+        refusal = room("list", "FILE")
+        room.counts["info of a refused file" if refusal.status else "info of a file that cannot be exported"] += 1
+        yield "status as of list", (answer.status, answer.err), (refusal.status, refusal.err)
+        return
+    records, rows, desk = file_lines(room.read("FILE"))
+    held = [f"rows {rows}", f"messages {len(desk.held)}"] if desk else []
+    held += [f"latest {carry.printed(max(desk.held))}"] if desk and desk.held else []
+    table = Timetable(whole)
+    room.counts["info of a desk" if desk else "info of a data set"] += 1
+    room.counts["info of no date"] += not table.flights
+    wanted = [f"kind {'desk' if desk else 'data set'}", *carrier_lines(records[1]), f"records {len(records)}", *total_lines(table), *held]
+    yield "info FILE", answer, said(wanted)
+
+
 def compared(rng, room, kind):
+    if kind == "info":
+        yield from of_info(room)
+        return
     if kind == "spans":
         yield from of_spans(rng, room)
         return

@@ -64,6 +64,7 @@ COMMANDS = [
     ("list of a part of flights", ["list", "--aircraft", "320", "--from", "1jul25", "desk", "LX544", "LX540"], None),
     ("calendar", ["calendar", "desk", "LX544"], None),
     ("calendar of a part", ["calendar", "--station", "LHR", "--from", "1jul25", "desk", "LX544", "LX540"], None),
+    ("info", ["info", "desk"], None),
     ("page", ["page", "desk"], None),
     ("diff", ["diff", "theirs", "desk"], None),
     ("publish", ["publish", "desk", "theirs", "05JUN00001E001", "new"], "new"),
