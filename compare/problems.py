@@ -103,7 +103,14 @@ def make(rng, room, _):
     return data
 
 
+def as_row(line):
+    """A line of `problems` as a row of CSV."""
+    number, name, *place = line.split(" ")
+    return ",".join([number, name, *place[1::2], *[""] * (2 - len(place) // 2)])
+
+
 def compared(_, room, data):
     wanted = expected(room.peer, data)
     room.counts["problems"] += len(wanted) - 1
     yield "problems", room("problems", "data"), said(wanted)
+    yield "problems --csv", room("problems", "--csv", "data"), said(["number,name,record,column", *map(as_row, wanted[:-1])])

@@ -36,6 +36,7 @@ MANY = 60
 FORMS = {(): listed, ("--dates",): listed_dates, ("--csv",): rows,
          ("--csv", "--dates"): lambda table, flights=None: rows(table, flights, True)}
 COMMANDS = [("list",), ("list", "--csv"), ("list", "--dates"), ("calendar",)]
+FINDING_NAMES = "reference,sub,action,flight,acted,absent,present,no_leg,no_station"
 
 
 def make(rng, room, kind):
@@ -137,6 +138,12 @@ def did_not_act(line):
     return acted == 0 or any(others)
 
 
+def as_row(line):
+    """A line of findings as a row of CSV: the reference has blanks."""
+    words = line.split(" ")
+    return ",".join([" ".join(words[:-13]), *words[-13:-10], *words[-9::2]])
+
+
 def of_findings(room, names):
     """What is compared of the findings of a desk; of a data set nothing."""
     whole = room("findings", "FILE")
@@ -149,6 +156,8 @@ def of_findings(room, names):
         yield f"findings {words}", room("findings", "FILE", *words), said(of_flights)
         wanted = said([line for line in of_flights if did_not_act(line)])
         yield f"findings --not-acted {words}", room("findings", "FILE", *words, "--not-acted"), wanted
+        wanted = said([FINDING_NAMES, *map(as_row, of_flights)])
+        yield f"findings --csv {words}", room("findings", "--csv", "FILE", *words), wanted
 
 
 # ---- spans

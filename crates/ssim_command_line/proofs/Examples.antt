@@ -57,8 +57,8 @@ two_flights = record { right = refl; name = codes "calendar"; rows = _; entered 
 -- `findings --from 20jul27 fdh.desk 341`: a span without an end
 from_a_date : Names (codes "ssimdesk" ∷ codes "findings" ∷ codes "--from" ∷ codes "20jul27"
     ∷ codes "fdh.desk" ∷ codes "341" ∷ [])
-    (Findings false (record { from = Some (codes "20jul27"); to = None }) (codes "fdh.desk")
-    (codes "341" ∷ []))
+    (Findings (record { csv = false; not_acted = false })
+    (record { from = Some (codes "20jul27"); to = None }) (codes "fdh.desk") (codes "341" ∷ []))
 unfolding clap_on_literals
 from_a_date = record { right = refl; name = codes "findings"; rows = _; entered = refl; read = refl }
 

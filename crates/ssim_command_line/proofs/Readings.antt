@@ -12,7 +12,7 @@ use Rattle.ssim_command_line.specs.Line.{one, one_and_several, one_and_texts, on
 use Rattle.ssim_command_line.specs.Line.{one_or_two_values, one_value, three}
 use Rattle.ssim_command_line.specs.Line.{three_values, two, two_and_texts}
 use Rattle.ssim_command_line.specs.Line.{board_form_of, board_words, formed_three}
-use Rattle.ssim_command_line.specs.Line.{choice_of, choice_words, flag, form_of, is_given, optional}
+use Rattle.ssim_command_line.specs.Line.{choice_of, choice_words, findings_form_of, flag, form_of, is_given, optional}
 use Rattle.ssim_command_line.specs.Line.{several_texts, span_of, span_words}
 use Rattle.ssim_command_line.specs.Line.{two_values, values_in}
 use Rattle.ssim_command_line.specs.Line.{Board, Calendar, Check, Diff, Explain, Export, Findings, History, Listing}
@@ -235,6 +235,10 @@ module _ (name : Text) where
       (λ a b. record { enter = λ t rest. refl; first = λ t u. refl; later = λ x seen t u. refl })
 
 -- the rows of the table with options, or any number of texts
+abbrev pub problems_row : Command
+problems_row = by (codes "problems") (one_value ++ flag (codes "csv") ∷ [])
+    (λ rows. one (Problems (is_given (codes "csv") rows)))
+
 abbrev pub receive_row : Command
 receive_row = by (codes "receive") (two_values ++ several_texts ∷ optional (codes "refused") ∷ [])
     (λ rows. two_and_texts (Receive (first_of (codes "refused") rows)))
@@ -257,8 +261,9 @@ calendar_row = by (codes "calendar") (one_value ++ several_texts ∷ choice_word
     (λ rows. one_and_several (Calendar (choice_of rows)))
 
 abbrev pub findings_row : Command
-findings_row = by (codes "findings") (one_value ++ any_texts ∷ flag (codes "not-acted") ∷ span_words)
-    (λ rows. one_and_texts (Findings (is_given (codes "not-acted") rows) (span_of rows)))
+findings_row = by (codes "findings")
+    (one_value ++ any_texts ∷ flag (codes "csv") ∷ flag (codes "not-acted") ∷ span_words)
+    (λ rows. one_and_texts (Findings (findings_form_of rows) (span_of rows)))
 
 abbrev pub select_row : Command
 select_row = by (codes "select") (one_value ++ any_texts ∷ choice_words)
@@ -280,6 +285,11 @@ page_read [] e = no_line e
 page_read (a ∷ []) e = one_of_page a
 page_read (a ∷ b ∷ []) e = two_of_page a b
 page_read (a ∷ b ∷ d ∷ rest) e = no_line e
+
+pub problems_read : IsReader problems_row
+unfolding clap_on_literals
+problems_read = one_reader problems_row.name problems_row.words
+    (λ rows. Problems (is_given (codes "csv") rows)) (λ a. refl)
 
 pub receive_read : IsReader receive_row
 unfolding clap_on_literals
@@ -308,7 +318,7 @@ calendar_read = some_reader calendar_row.name calendar_row.words (λ rows. Calen
 pub findings_read : IsReader findings_row
 unfolding clap_on_literals
 findings_read = texts_reader findings_row.name findings_row.words
-    (λ rows. Findings (is_given (codes "not-acted") rows) (span_of rows))
+    (λ rows. Findings (findings_form_of rows) (span_of rows))
     (λ a. (refl, record { enter = λ t rest. refl; first = λ t u. refl; later = λ x seen t u. refl }))
 
 pub select_read : IsReader select_row
@@ -335,7 +345,7 @@ with_several name make = record {
 abbrev pub readers : List Reader
 readers =
     with_one (codes "check") Check
-    ∷ with_one (codes "problems") Problems
+    ∷ record { row = problems_row; reads = problems_read }
     ∷ with_one (codes "tidy") Tidy
     ∷ with_three (codes "start") Start
     ∷ with_several (codes "take") Take

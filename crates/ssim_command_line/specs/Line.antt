@@ -11,6 +11,7 @@ use Rattle.ssim_command_line.specs.declared.board_form.BoardForm.{BoardForm}
 use Rattle.ssim_command_line.specs.declared.board_form.Direction.{Direction}
 use Rattle.ssim_command_line.specs.declared.board_form.Direction.TheVariants.{Departures, Arrivals}
 use Rattle.ssim_command_line.specs.declared.command_line.ChoiceWords.{ChoiceWords}
+use Rattle.ssim_command_line.specs.declared.command_line.FindingsForm.{FindingsForm}
 use Rattle.ssim_command_line.specs.declared.command_line.ListForm.{ListForm}
 use Rattle.ssim_command_line.specs.declared.command_line.ModeWord.{ModeWord}
 use Rattle.ssim_command_line.specs.declared.command_line.ModeWord.TheVariants.{Utc, Local}
@@ -38,7 +39,7 @@ pub record SpanTexts : Type 0 where
 -- a command with its values
 pub data Line : Type 0 where
   Check : (dataset : Text) → Line
-  Problems : (dataset : Text) → Line
+  Problems : (csv : Bool) (dataset : Text) → Line
   Tidy : (dataset : Text) → Line
   Start : (dataset stations out : Text) → Line
   Take : (desk out : Text) (texts : List Text) → Line
@@ -56,7 +57,7 @@ pub data Line : Type 0 where
   Page : (from : Option Text) (file : Text) → Line
   Diff : (from to : Text) → Line
   Publish : (from to reference out : Text) → Line
-  Findings : (not_acted : Bool) (span : SpanTexts) (desk : Text) (flights : List Text) → Line
+  Findings : (form : FindingsForm) (span : SpanTexts) (desk : Text) (flights : List Text) → Line
   Export : (desk : Text) → Line
   Select : (choice : ChoiceTexts) (file : Text) (flights : List Text) → Line
   Convert : (mode : ModeWord) (file out : Text) → Line
@@ -83,7 +84,7 @@ span_line span = record {
 -- the command line of a request
 abbrev pub line_of : Request → Line
 line_of (request.Check dataset) = Check dataset.now
-line_of (request.Problems dataset) = Problems dataset.now
+line_of (request.Problems csv dataset) = Problems csv dataset.now
 line_of (request.Tidy dataset) = Tidy dataset.now
 line_of (request.Start dataset stations out) = Start dataset.now stations.now out.now
 line_of (request.Take desk out texts) = Take desk.now out.now (map (λ t. t.now) texts.items)
@@ -108,8 +109,8 @@ line_of (request.Info file) = Info file.now
 line_of (request.Page from file) = Page (option_map (λ f. f.now) from) file.now
 line_of (request.Diff from to) = Diff from.now to.now
 line_of (request.Publish from to reference out) = Publish from.now to.now reference.now out.now
-line_of (request.Findings not_acted span desk flights) =
-    Findings not_acted (span_line span) desk.now (map (λ t. t.now) flights.items)
+line_of (request.Findings form span desk flights) =
+    Findings form (span_line span) desk.now (map (λ t. t.now) flights.items)
 line_of (request.Export desk) = Export desk.now
 line_of (request.Select choice file flights) =
     Select (choice_line choice) file.now (map (λ t. t.now) flights.items)
@@ -175,6 +176,11 @@ is_given name rows = option_map_or (λ text. bytes_eq text (codes "true")) (firs
 -- which of the options of `list` are given
 abbrev pub form_of : List Row → ListForm
 form_of rows = record { csv = is_given (codes "csv") rows; dates = is_given (codes "dates") rows }
+
+-- which of the options of `findings` are given
+abbrev pub findings_form_of : List Row → FindingsForm
+findings_form_of rows =
+    record { csv = is_given (codes "csv") rows; not_acted = is_given (codes "not-acted") rows }
 
 -- the time mode of a word
 abbrev pub mode_of : Text → Option ModeWord
@@ -311,7 +317,11 @@ command name words make = record { name = name; words = words; make = λ rows. m
 abbrev pub commands : List Command
 commands =
     command (codes "check") one_value (one Check)
-    ∷ command (codes "problems") one_value (one Problems)
+    ∷ record {
+      name = codes "problems";
+      words = one_value ++ flag (codes "csv") ∷ [];
+      make = λ rows. one (Problems (is_given (codes "csv") rows));
+    }
     ∷ command (codes "tidy") one_value (one Tidy)
     ∷ command (codes "start") three_values (three Start)
     ∷ command (codes "take") (two_values ++ several_texts ∷ []) (two_and_texts Take)
@@ -351,8 +361,8 @@ commands =
     ∷ command (codes "page") one_or_two_values (one_or_two Page)
     ∷ record {
       name = codes "findings";
-      words = one_value ++ any_texts ∷ flag (codes "not-acted") ∷ span_words;
-      make = λ rows. one_and_texts (Findings (is_given (codes "not-acted") rows) (span_of rows));
+      words = one_value ++ any_texts ∷ flag (codes "csv") ∷ flag (codes "not-acted") ∷ span_words;
+      make = λ rows. one_and_texts (Findings (findings_form_of rows) (span_of rows));
     }
     ∷ command (codes "export") one_value (one Export)
     ∷ record {

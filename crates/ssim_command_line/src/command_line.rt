@@ -3,7 +3,8 @@ ghost use Rattle.std.specs.Prelude.{◌≡◌, ◌++◌, [], IfErr, IfOk, MatchR
 ghost use Rattle.std.specs.Prelude.{option_map, unwrap_or};
 ghost use Rattle.clap.specs.Words.{all_of, app_of, found_of, first_of, rows_of};
 ghost use Rattle.ssim_command_line.specs.Line.{Line, Spells, form_of, is_given, line_from, values_in};
-ghost use Rattle.ssim_command_line.specs.Line.{choice_line, choice_of, line_of, mode_of};
+ghost use Rattle.ssim_command_line.specs.Line.{choice_line, choice_of, findings_form_of, line_of};
+ghost use Rattle.ssim_command_line.specs.Line.{mode_of};
 ghost use Rattle.ssim_command_line.specs.Line.{span_line, span_of};
 ghost use Rattle.ssim_command_line.specs.Usage.{Names, line_at};
 ghost use Rattle.ssim_command_line.specs.clauses.Usage.{IsFaultOf};
@@ -23,6 +24,15 @@ pub struct ListForm {
     pub csv: bool,
     /// Date by date.
     pub dates: bool,
+}
+
+/// How `findings` prints the sub-messages, and which.
+#[derive(Clone, Copy, Debug, PartialEq, Eq)]
+pub struct FindingsForm {
+    /// As CSV.
+    pub csv: bool,
+    /// Only those that did not act on a date.
+    pub not_acted: bool,
 }
 
 /// The time mode of the data set that `convert` writes.
@@ -66,6 +76,7 @@ pub enum Request<'a> {
     },
     /// Print every invalid record of a data set.
     Problems {
+        csv: bool,
         dataset: &'a str,
     },
     /// Export a data set.
@@ -178,7 +189,7 @@ pub enum Request<'a> {
     /// Print what the sub-messages of a desk found on these dates: of all flights, or of these; and
     /// all of them, or those that did not act on a date.
     Findings {
-        not_acted: bool,
+        form: FindingsForm,
         span: SpanWords<'a>,
         desk: &'a str,
         flights: Vec<&'a str>,
@@ -259,6 +270,13 @@ macro_rules! request {
                 Some($form) => Ok(Some(Request::$name { $($field: *$field,)+ $form })),
                 None => Ok(None),
             },
+            _ => Ok(None),
+        }
+    };
+    (($alloc:expr, $inner:expr, $values:expr)
+        $name:ident($($field:ident),+; $form:ident: $by:ident)) => {
+        match $values {
+            [$($field),+] => Ok(Some(Request::$name { $form: $by($inner), $($field: *$field),+ })),
             _ => Ok(None),
         }
     };
@@ -394,11 +412,21 @@ fn form_of(inner: &ArgMatches<'_>) -> ListForm
     }
 }
 
-/// Whether `findings` prints only what did not act.
-fn not_acted_of(inner: &ArgMatches<'_>) -> bool
-    ensures { result ≡ is_given (codes "not-acted") (rows_of (found_of inner.now)) }
+/// Which of the options of `findings` are given.
+fn findings_form_of(inner: &ArgMatches<'_>) -> FindingsForm
+    ensures { result ≡ findings_form_of (rows_of (found_of inner.now)) }
 {
-    is_given(inner, "not-acted")
+    FindingsForm {
+        csv: is_given(inner, "csv"),
+        not_acted: is_given(inner, "not-acted"),
+    }
+}
+
+/// Whether rows of CSV are printed.
+fn csv_of(inner: &ArgMatches<'_>) -> bool
+    ensures { result ≡ is_given (codes "csv") (rows_of (found_of inner.now)) }
+{
+    is_given(inner, "csv")
 }
 
 /// The span of dates that the options give.

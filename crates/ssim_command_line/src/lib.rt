@@ -15,4 +15,6 @@ mod table;
 mod word_help;
 
 pub use board_form::{BoardForm, Direction};
-pub use command_line::{ChoiceWords, LineFault, ListForm, ModeWord, Request, SpanWords, parse};
+pub use command_line::{
+    ChoiceWords, FindingsForm, LineFault, ListForm, ModeWord, Request, SpanWords, parse,
+};

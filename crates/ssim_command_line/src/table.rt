@@ -83,7 +83,7 @@ Example:
 prints, if nothing is wrong, the number of records, of flights and of notes:
   ok records 75 flights 41 notes 0
 Exit status: 0, also with notes; 1 if the data set is refused or cannot be read."
-        "problems" [First("DATASET")] => Problems(dataset)
+        "problems" [First("DATASET"), Flag("csv")] => Problems(dataset; csv: csv_of)
         "Read a data set, and print every invalid record, not only the first"
         "\
 Example:
@@ -94,7 +94,7 @@ were not there, and then the number of records and of problems:
   34 Overlap record 12
   records 75 problems 2
 After an invalid header or carrier record, each record is checked by its own
-columns only.
+columns only. With --csv it prints a row for each problem.
 Exit status: 0, also with problems; 1 if the data set cannot be read."
         "tidy" [First("DATASET")] => Tidy(dataset)
         "Print a data set with its periods divided anew, in canonical form"
@@ -374,9 +374,9 @@ writes the page of 'friday.desk' with what changed from 'monday.desk', as in
 'diff'.
 Exit status: 0; 1 if a file is refused or cannot be read, or of two files the
 airline (41) or the time mode (40) of TO is another one."
-        "findings" [First("DESK"), Any("FLIGHT"), Flag("not-acted"), Valued("from", "DATE"),
-            Valued("to", "DATE")]
-            => Findings(desk; flights; not_acted: not_acted_of; span: span_of)
+        "findings" [First("DESK"), Any("FLIGHT"), Flag("csv"), Flag("not-acted"),
+            Valued("from", "DATE"), Valued("to", "DATE")]
+            => Findings(desk; flights; form: findings_form_of; span: span_of)
         "Print on how many dates each message acted, and why not on others"
         "\
 Example:
@@ -386,7 +386,8 @@ the dates:
   SSM 15MAR27 00001 001 1 CNL Z7103 acted 1 absent 0 present 0 leg 0 station 0
 With --not-acted it prints only the sub-messages that did not act on a date of
 their period, or have none. With --from or --to it counts only these dates, and
-leaves out a sub-message without one.
+leaves out a sub-message without one. With --csv it prints a row for each
+sub-message.
 Exit status: 0; 1 if the desk file is refused or cannot be read, a word is no
 flight (6) or date (1), the airline is another one (41), or --from is after --to
 (43)."

@@ -22,10 +22,7 @@ impl Told {
 
 // The first row that has a word says what it is.
 const WORDS: &[(Told, &str)] = &[
-    (
-        Id("csv"),
-        "Print CSV: a row of names, then a row for each leg",
-    ),
+    (Id("csv"), "Print CSV: a row of names, and then the rows"),
     (Id("dates"), "Print each date by itself, and no periods"),
     (Id("not-acted"), "Print only what did not act on a date"),
     (Id("days"), "Print N dates, each under a heading"),

@@ -1,7 +1,7 @@
 -- What commands print of equal data sets.
-use Rattle.std.proofs.Common.{◌≡◌, ◌∙◌, ◌⊎◌, inl, inr, ℕ, true, List, [], ◌∷◌, ◌++◌, Option, Some}
+use Rattle.std.proofs.Common.{◌≡◌, ◌∙◌, ◌⊎◌, inl, inr, ℕ, Bool, true, List, [], ◌∷◌, ◌++◌, Option, Some}
 use Rattle.std.proofs.Common.{None, Ok, Err, length, refl, sym, ap, ap₂, subst}
-use Rattle.std.specs.Prelude.{All}
+use Rattle.std.specs.Prelude.{All, codes, if◌then◌else◌}
 use Rattle.std.specs.List.{flat_map}
 use Rattle.ssim_values.specs.Flight.{FlightNumber}
 use Rattle.ssim_values.specs.Station.{is_station}
@@ -52,6 +52,7 @@ use Rattle.ssim_program.specs.EqualFiles.{PrintTheSame, PrintsTheSame}
 use Rattle.ssim_program.specs.Exports.{HasNoExport, RefusesExport, export_in}
 use Rattle.ssim_program.specs.Files.{Files}
 use Rattle.ssim_program.specs.Made.{AreLinesOn, IsExport, data_set_in, problem_line, problem_lines}
+use Rattle.ssim_program.specs.Made.{problem_row, problem_rows}
 use Rattle.ssim_program.specs.Made.{problems_in, summary_lines}
 use Rattle.ssim_program.specs.Messages.{IsOf, message_texts, messages_on}
 use Rattle.ssim_program.specs.Offices.{IsSameFile}
@@ -105,19 +106,21 @@ module _ (frames : FramesAreOne) (one_base : SameBytesSameBase) where
       (subst (λ (ns : List Note). AreLinesOn that.0 ns lines) equal.1
       (subst (λ (rs : List Record). AreLinesOn rs set.1 lines) equal.0 is)) are)))
 
--- the lines of some problems of a number of records
-abbrev lines_of : ℕ → List BaseFault → List ℕ
-lines_of records faults =
-    flat_map problem_line faults ++ line
+-- the lines of some problems of a number of records, or their rows of CSV
+abbrev lines_of : Bool → ℕ → List BaseFault → List ℕ
+lines_of csv records faults =
+    if csv then line (codes "number,name,record,column") ++ flat_map problem_row faults
+    else flat_map problem_line faults ++ line
     (printed_text (printed_line.ProblemCount records (length faults)))
 
-pub problems_same : SameBytesSameProblems → DoesTheSame ProblemsOf
-problems_same one files others name another same =
+pub problems_same : SameBytesSameProblems → (csv : Bool) → DoesTheSame (ProblemsOf csv)
+problems_same one csv files others name another same =
     let mine = problems_in (Some files) name in
     let theirs = problems_in (Some others) another in
-    let next : Problems → Answer (List ℕ) = λ found. Gives (problem_lines found) in
+    let printed : Problems → List ℕ = λ p. if csv then problem_rows p else problem_lines p in
+    let next : Problems → Answer (List ℕ) = λ found. Gives (printed found) in
     prints_alike (mine >>= next) (theirs >>= next)
     (then_alike (λ p q. (p.records ≡ q.records) × (p.faults.items ≡ q.faults.items)) Equal mine theirs
     next next (problems_alike files others name another same one)
-    (λ p q equal. gives_alike (problem_lines p) (problem_lines q)
-    (ap₂ (λ (n : ℕ) (fs : List BaseFault). lines_of n fs) equal.0 equal.1)))
+    (λ p q equal. gives_alike (printed p) (printed q)
+    (ap₂ (λ (n : ℕ) (fs : List BaseFault). lines_of csv n fs) equal.0 equal.1)))

@@ -4,6 +4,7 @@ use Rattle.ssim_held.specs.Entries.{DeskSeen}
 use Rattle.ssim_held.specs.File.{NoTwoDesks}
 use Rattle.ssim_parts.specs.Chosen.{Choosing}
 use Rattle.ssim_command_line.specs.Line.{Findings, Line, SpanTexts, Text, Texts}
+use Rattle.ssim_command_line.specs.declared.command_line.FindingsForm.{FindingsForm}
 use Rattle.ssim_program.specs.Answer.{Answer, ◌>>=◌}
 use Rattle.ssim_program.specs.Desks.{desk_in}
 use Rattle.ssim_program.specs.EqualFiles.{AreAlike, DoesTheSame, PrintTheSame}
@@ -19,9 +20,9 @@ use Rattle.ssim_program.proofs.SameReading.{SameDesk, desk_alike}
 abbrev texts_of : Bool → DeskSeen → Choosing → List ℕ
 texts_of spanned desk choice = message_texts (messages_on spanned choice desk.held)
 
-abbrev findings_of : Bool → Bool → DeskSeen → Choosing → List ℕ
-findings_of not_acted spanned desk choice =
-    findings_lines not_acted spanned choice (lines_found spanned choice desk)
+abbrev findings_of : FindingsForm → Bool → DeskSeen → Choosing → List ℕ
+findings_of form spanned desk choice =
+    findings_lines form spanned choice (lines_found spanned choice desk)
 
 module _ (no_two : NoTwoDesks) where
   pub texts_alike : (span : SpanTexts) (words : List Text)
@@ -38,12 +39,12 @@ module _ (no_two : NoTwoDesks) where
       (λ desk other choice that one both. λ i. lines (seen (one.0 i) (one.1 i)) (both i))
       (dates_alone span) words))
 
-  pub findings_alike : (not_acted : Bool) (span : SpanTexts) (words : List Text)
-      → DoesTheSame (λ file. Findings not_acted span file words)
-  findings_alike not_acted span words files others name another same =
+  pub findings_alike : (form : FindingsForm) (span : SpanTexts) (words : List Text)
+      → DoesTheSame (λ file. Findings form span file words)
+  findings_alike form span words files others name another same =
       let mine = desk_in (Some files) name in
       let theirs = desk_in (Some others) another in
-      let lines = findings_of not_acted (has_end span) in
+      let lines = findings_of form (has_end span) in
       let printed = lines_of lines (dates_alone span) words in
       prints_alike (mine >>= printed) (theirs >>= printed)
       (then_alike SameDesk Equal mine theirs printed printed

@@ -162,7 +162,7 @@ module _ (old new : Files) (acts done later : List Act) (split : acts ≡ done +
   of_line : (l : Line) → answers l (Some old) (Ok acts) → Leads l old new
   of_line (line.Check name) (bytes, is, are) =
       looks _ old new acts done later split left (ap kept_by are)
-  of_line (line.Problems name) (bytes, is, are) =
+  of_line (line.Problems csv name) (bytes, is, are) =
       looks _ old new acts done later split left (ap kept_by are)
   of_line (line.Tidy name) (set, read, (bytes, is, are)) =
       looks _ old new acts done later split left (ap kept_by are)
@@ -233,7 +233,7 @@ module _ (old new : Files) (acts done later : List Act) (split : acts ≡ done +
     is = inl (kept_by done, refl);
     leaves = left;
   }
-  of_line (line.Findings not_acted span desk flights) (bytes, is, are) =
+  of_line (line.Findings form span desk flights) (bytes, is, are) =
       looks _ old new acts done later split left (ap kept_by are)
   of_line (line.Export desk) (one, read, (bytes, is, are)) =
       looks _ old new acts done later split left (ap kept_by are)

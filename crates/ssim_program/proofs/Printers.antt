@@ -1,5 +1,6 @@
 -- What printers have after several calls.
-use Rattle.std.proofs.Common.{◌∙◌, inl, inr, ℕ, ◌+◌, ◌%◌, ◌^◌, List, [], ◌++◌, Result, Ok, Err, refl, ap, subst, append-nil}
+use Rattle.std.proofs.Common.{◌∙◌, inl, inr, ℕ, ◌+◌, ◌%◌, ◌^◌, List, [], ◌++◌, Result, Ok, Err, refl}
+use Rattle.std.proofs.Common.{IsOk, OnOk, ap, append-nil, subst, sym, true≢false}
 use Rattle.std.proofs.KnownBytes.{Appends-nil, Appends-trans}
 use Rattle.ssim_base.proofs.SinkLemmas.{front_more, then_front}
 use Rattle.ssim_program.specs.print.Paper.{Breaks, Grows, Paper, PrintsOrFails}
@@ -50,3 +51,10 @@ prints_then x y p q r (Err e) g h = (h.0, breaks_more x y p q r g h.1)
 -- bytes were put, and then the printer is flushed
 pub flushes : (x : List ℕ) (p q r : Paper) (result : Result (Unit {0}) Refusal) → Grows x p q → Prints [] q r result → Prints x p r result
 flushes x p q r result g h = subst (λ (bs : List ℕ). Prints bs p r result) (append-nil x) (prints_then x [] p q r result g h)
+
+-- what holds if r is a value holds if w is one
+pub if_written : {A B E F : Type 0} (P : Type 0) (r : Result A E) (w : Result B F)
+    → OnOk w (IsOk r) → OnOk r P → OnOk w P
+if_written P (Ok _) (Ok _) is p = p
+if_written P (Err _) (Ok _) is p = absurd (true≢false (sym is))
+if_written P r (Err _) is p = is

@@ -1,6 +1,6 @@
 -- What each command does, by the files: one equation a command.
 use Rattle.std.specs.Prelude.{◌≡◌, ℕ, Bool, true, List, [], ◌∷◌, ◌++◌, length, map, slice_range}
-use Rattle.std.specs.Prelude.{Option, None, Some, Ok, Err}
+use Rattle.std.specs.Prelude.{Option, None, Some, Ok, Err, if◌then◌else◌}
 use Rattle.ssim_values.specs.Station.{is_station}
 use Rattle.ssim_values.specs.Flight.{FlightNumber}
 use Rattle.ssim_values.specs.declared.fault.Fault.TheVariants as value_fault
@@ -31,6 +31,7 @@ use Rattle.ssim_command_line.specs.Line.{Receive, Texts, Show, History, Calendar
 use Rattle.ssim_command_line.specs.Line.{Rehearse, Explain, Page, Board, Diff, Publish, Listing}
 use Rattle.ssim_command_line.specs.Line.{Convert, Info, Select, Split}
 use Rattle.ssim_command_line.specs.declared.board_form.BoardForm.{BoardForm}
+use Rattle.ssim_command_line.specs.declared.command_line.FindingsForm.{FindingsForm}
 use Rattle.ssim_command_line.specs.declared.command_line.ListForm.{ListForm}
 use Rattle.ssim_command_line.specs.declared.command_line.ModeWord.{ModeWord}
 use Rattle.ssim_program.specs.Acts.{Act, Print, Keep, prints, prints_then}
@@ -43,7 +44,7 @@ use Rattle.ssim_program.specs.Desks.{desk_in, held_line, merged, text_taken}
 use Rattle.ssim_program.specs.Explained.{Explains}
 use Rattle.ssim_program.specs.Files.{Files}
 use Rattle.ssim_program.specs.Made.{AreLinesOn, base_in, data_set_in, problem_lines, problems_in}
-use Rattle.ssim_program.specs.Made.{RefusesLoad}
+use Rattle.ssim_program.specs.Made.{RefusesLoad, problem_rows}
 use Rattle.ssim_program.specs.Messages.{flights_on, message_texts, messages_on}
 use Rattle.ssim_program.specs.Places.{place_in}
 use Rattle.ssim_program.specs.Splitting.{split}
@@ -70,11 +71,11 @@ check files name = do
   set ← data_set_in files name
   Finds (AreLinesOn set.0 set.1)
 
--- a line for each invalid record, and their number
-abbrev pub problems : Option Files → Text → Answer (List ℕ)
-problems files name = do
+-- a line for each invalid record, and their number; or a row of CSV for each
+abbrev pub problems : Option Files → Bool → Text → Answer (List ℕ)
+problems files csv name = do
   found ← problems_in files name
-  Gives (problem_lines found)
+  Gives (if csv then problem_rows found else problem_lines found)
 
 -- the canonical export of a data set
 abbrev pub tidy : Option Files → Text → Answer (List Act)
@@ -172,13 +173,13 @@ history files file flight words = do
   Gives (blocks (map (history_on (airline_of desk.base.records) (itinerary desk.base.records)
       (steps_on desk) named.1) (in_order named.0)))
 
--- what each sub-message found on its dates, or on those of a span: of all flights, or of those that are
--- named; all, or those alone that did not act on a date
-abbrev pub findings : Option Files → Bool → SpanTexts → Text → List Text → Answer (List ℕ)
-findings files not_acted span file words = do
+-- what each sub-message found on its dates, or on those of a span: of all flights, or of those that
+-- are named; all, or those alone that did not act on a date; as lines or as CSV
+abbrev pub findings : Option Files → FindingsForm → SpanTexts → Text → List Text → Answer (List ℕ)
+findings files form span file words = do
   desk ← desk_in files file
   choice ← choice_in (airline_of desk.base.records) (dates_alone span) words
-  Gives (findings_lines not_acted (has_end span) choice (lines_found (has_end span) choice desk))
+  Gives (findings_lines form (has_end span) choice (lines_found (has_end span) choice desk))
 
 -- the canonical export of what a desk has
 abbrev pub export : Option Files → Text → Answer (List Act)
@@ -336,7 +337,7 @@ explain files word (Err why) = RefusesLoad files word why
 -- what each command does
 abbrev pub answers : Line → Option Files → Answer (List Act)
 answers (Check name) files = prints (check files name)
-answers (Problems name) files = prints (problems files name)
+answers (Problems csv name) files = prints (problems files csv name)
 answers (Tidy name) files = tidy files name
 answers (Start dataset stations out) files = start files dataset stations out
 answers (Take file out names) files = take files file out names
@@ -354,8 +355,8 @@ answers (Info file) files = prints (info files file)
 answers (Page from file) files = prints (page files from file)
 answers (Diff from to) files = prints (diff files from to)
 answers (Publish from to reference out) files = publish files from to reference out
-answers (Findings not_acted span file flights) files =
-    prints (findings files not_acted span file flights)
+answers (Findings form span file flights) files =
+    prints (findings files form span file flights)
 answers (Export file) files = export files file
 answers (Select choice file flights) files = select files choice file flights
 answers (Convert mode file out) files = convert files mode file out

@@ -1,6 +1,7 @@
 -- What is read of files, and what the commands make from a data set.
 use Rattle.std.specs.Prelude.{◌≡◌, ◌⊎◌, ℕ, ◌<◌, ◌≤◌, IfSome, List, ◌++◌, codes, length, Option}
-use Rattle.std.specs.Prelude.{Some, Ok, Err}
+use Rattle.std.specs.Prelude.{◌∷◌, Some, Ok, Err}
+use Rattle.std.specs.Fmt.{decimal}
 use Rattle.std.specs.List.{flat_map}
 use Rattle.ssim_values.specs.Flight.{FlightNumber}
 use Rattle.ssim_records.specs.declared.fault.RecordFault.TheVariants as record_fault
@@ -13,6 +14,8 @@ use Rattle.ssim_base.specs.ReadBack.{HasFrame}
 use Rattle.ssim_base.specs.Reading.{IsWholeOf}
 use Rattle.ssim_base.specs.Stations.{NamesLine, Row, SpellsTable}
 use Rattle.ssim_base.specs.Timetable.{Days, days_of}
+use Rattle.ssim_base.specs.declared.place.Place.{Place}
+use Rattle.ssim_base.specs.declared.place.Place.TheVariants as place
 use Rattle.ssim_base.specs.declared.fault.BaseFault.{BaseFault}
 use Rattle.ssim_base.specs.declared.fault.BaseFault.TheVariants as base
 use Rattle.ssim_base.specs.declared.note.Note.{Note}
@@ -71,6 +74,23 @@ abbrev pub problem_lines : Problems → List ℕ
 problem_lines problems =
     flat_map problem_line problems.faults.items
     ++ line (printed_text (printed.ProblemCount problems.records (length problems.faults.items)))
+
+-- the record and the column of a place, as two fields of CSV
+abbrev pub place_fields : Place → List ℕ
+place_fields (place.Record n) = decimal n ++ codes ","
+place_fields (place.Column n column) = decimal n ++ 44 ∷ decimal column
+place_fields _ = codes ","
+
+-- the row of a problem: its number, its name, its record and its column
+abbrev pub problem_row : BaseFault → List ℕ
+problem_row fault =
+    line (decimal (base_fault_number fault) ++ 44 ∷ base_fault_name fault ++ 44
+    ∷ place_fields (base_fault_place fault))
+
+-- a row of names, and a row for each problem, in order
+abbrev pub problem_rows : Problems → List ℕ
+problem_rows problems =
+    line (codes "number,name,record,column") ++ flat_map problem_row problems.faults.items
 
 -- ---- from a file
 

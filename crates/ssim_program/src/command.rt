@@ -97,7 +97,9 @@ pub(crate) fn make<'r, S: Store>(
         Request::Tidy { dataset } => tidy::tidy(alloc, dataset, store),
         Request::Export { desk } => export::export(alloc, desk, store),
         Request::Check { dataset } => lines(check::check(alloc, dataset, store)),
-        Request::Problems { dataset } => lines(problems::problems(alloc, dataset, store)),
+        Request::Problems { csv, dataset } => {
+            lines(problems::problems(alloc, *csv, dataset, store))
+        }
         Request::Texts {
             span,
             desk,
@@ -134,11 +136,11 @@ pub(crate) fn make<'r, S: Store>(
         Request::Page { from, file } => lines(page::page(alloc, *from, file, store)),
         Request::Diff { from, to } => lines(diff::diff(alloc, from, to, store)),
         Request::Findings {
-            not_acted,
+            form,
             span,
             desk,
             flights,
-        } => lines(findings::findings(alloc, *not_acted, *span, desk, flights, store)),
+        } => lines(findings::findings(alloc, *form, *span, desk, flights, store)),
         Request::Select {
             choice,
             file,

@@ -6,6 +6,7 @@ ghost use Rattle.ssim_command_line.specs.Line.{Convert, Export, Findings, Select
 ghost use Rattle.ssim_command_line.specs.Line.{History, Info, Listing, Page, Problems, Show, Text, Texts};
 ghost use Rattle.ssim_command_line.specs.Line.{Tidy, Withdraw};
 ghost use Rattle.ssim_command_line.specs.declared.board_form.BoardForm.{BoardForm};
+ghost use Rattle.ssim_command_line.specs.declared.command_line.FindingsForm.{FindingsForm};
 ghost use Rattle.ssim_command_line.specs.declared.command_line.ListForm.{ListForm};
 ghost use Rattle.ssim_command_line.specs.declared.command_line.ModeWord.{ModeWord};
 ghost use Rattle.ssim_program.specs.Again.{TidiesOnce};
@@ -86,8 +87,8 @@ pub fn equal_desk_files_do_the_same()
     ensures withdraw { (out : Text) (references : List Text)
         → PrintsTheSame (λ file. Withdraw file out references) }
     ensures carry { (out : Text) → PrintsTheSameOfPairs (λ desk other. Carry desk other out) }
-    ensures findings { (not_acted : Bool) (span : SpanTexts) (flights : List Text)
-        → DoesTheSame (λ file. Findings not_acted span file flights) }
+    ensures findings { (form : FindingsForm) (span : SpanTexts) (flights : List Text)
+        → DoesTheSame (λ file. Findings form span file flights) }
     ensures export { DoesTheSame Export }
 {
     one_reference();
@@ -128,7 +129,7 @@ pub fn equal_timetables_do_the_same()
 /// invalid record.
 pub fn equal_data_sets_do_the_same()
     ensures check { DoesTheSame Check }
-    ensures problems { DoesTheSame Problems }
+    ensures problems { (csv : Bool) → DoesTheSame (λ file. Problems csv file) }
     ensures tidy { DoesTheSame Tidy }
 {
     frames_are_one();

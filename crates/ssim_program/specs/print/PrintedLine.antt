@@ -44,3 +44,23 @@ sub_text found =
 -- what a sub-message found
 abbrev pub finding_text : FindingLine → List ℕ
 finding_text found = sub_text found ++ counts_text found.finding
+
+-- the names of the fields of CSV
+abbrev pub finding_names : List ℕ
+finding_names = codes "reference,sub,action,flight,acted,absent,present,no_leg,no_station"
+
+-- a sub-message as fields of CSV
+abbrev pub sub_fields : FindingLine → List ℕ
+sub_fields found =
+    printed_reference found.reference ++ 44 ∷ decimal found.sub ++ 44 ∷ identifier_text found.action
+    ++ 44 ∷ designator_text found.designator
+
+-- the numbers of dates as fields of CSV, each after a comma
+abbrev pub count_fields : Finding → List ℕ
+count_fields f =
+    44 ∷ decimal f.acted ++ 44 ∷ decimal f.absent ++ 44 ∷ decimal f.present ++ 44 ∷ decimal f.leg
+    ++ 44 ∷ decimal f.station
+
+-- what a sub-message found, as a row of CSV
+abbrev pub finding_row : FindingLine → List ℕ
+finding_row found = sub_fields found ++ count_fields found.finding

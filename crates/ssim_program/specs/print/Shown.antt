@@ -19,7 +19,8 @@ use Rattle.ssim_desk.specs.declared.finding_line.FindingLine.{FindingLine}
 use Rattle.ssim_parts.specs.Chosen.{Choosing, chooses_flight}
 use Rattle.ssim_listing.specs.LegText.{leg_text}
 use Rattle.ssim_listing.specs.Marks.{marked_line}
-use Rattle.ssim_program.specs.print.PrintedLine.{finding_text}
+use Rattle.ssim_command_line.specs.declared.command_line.FindingsForm.{FindingsForm}
+use Rattle.ssim_program.specs.print.PrintedLine.{finding_names, finding_row, finding_text}
 
 -- the line of a leg
 abbrev pub leg_line : LegValue → List ℕ
@@ -113,12 +114,14 @@ is_shown not_acted spanned choice found =
     chooses_flight choice found.designator.flight
     && (not spanned || has_dates found.finding) && (not not_acted || fails found.finding)
 
--- the line of a sub-message, if it is printed
-abbrev pub chosen_line : Bool → Bool → Choosing → FindingLine → List ℕ
-chosen_line not_acted spanned choice found =
-    if is_shown not_acted spanned choice found then line (finding_text found) else []
+-- the line or the row of a sub-message, if it is printed
+abbrev pub chosen_line : FindingsForm → Bool → Choosing → FindingLine → List ℕ
+chosen_line form spanned choice found =
+    if is_shown form.not_acted spanned choice found
+    then line (if form.csv then finding_row found else finding_text found) else []
 
--- a line for each sub-message that is printed
-abbrev pub findings_lines : Bool → Bool → Choosing → List FindingLine → List ℕ
-findings_lines not_acted spanned choice found =
-    flat_map (chosen_line not_acted spanned choice) found
+-- a line for each sub-message that is printed; or a row of names, and a row for each
+abbrev pub findings_lines : FindingsForm → Bool → Choosing → List FindingLine → List ℕ
+findings_lines form spanned choice found =
+    (if form.csv then line finding_names else [])
+    ++ flat_map (chosen_line form spanned choice) found

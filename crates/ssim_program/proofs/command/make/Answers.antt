@@ -101,7 +101,7 @@ returns-in-Check-clause-answer g c = let old = g.S.Store.files c.args.store.now 
 pub returns-in-Problems-clause-answer : goal.returns-in-Problems-clause-answer
 returns-in-Problems-clause-answer g c = let old = g.S.Store.files c.args.store.now in
     made_of _ _ _ _ _ c.in-Problems.is
-    (lines_of g.S.Hold.Hold.file old (answer.problems old c.in-Problems.dataset.now)
+    (lines_of g.S.Hold.Hold.file old (answer.problems old c.in-Problems.csv c.in-Problems.dataset.now)
     c.problems.result c.lines-in-Problems.result c.problems.ensures.answer
     c.lines-in-Problems.ensures)
 
@@ -193,11 +193,11 @@ pub returns-in-Findings-clause-answer : goal.returns-in-Findings-clause-answer
 returns-in-Findings-clause-answer g c = let old = g.S.Store.files c.args.store.now in
     made_of _ _ _ _ _ c.in-Findings.is
     (lines_of g.S.Hold.Hold.file old
-    (answer.findings old c.in-Findings.not_acted (span_line c.in-Findings.span)
+    (answer.findings old c.in-Findings.form (span_line c.in-Findings.span)
     c.in-Findings.desk.now (map (λ t. t.now) c.in-Findings.flights.items))
     c.findings.result c.lines-in-Findings.result
     (subst (λ (words : List (Bor (List ℕ))). Answers
-    (answer.findings old c.in-Findings.not_acted (span_line c.in-Findings.span)
+    (answer.findings old c.in-Findings.form (span_line c.in-Findings.span)
     c.in-Findings.desk.now (map (λ t. t.now) words))
     c.findings.result) c.deref-in-Findings.ensures.value c.findings.ensures.answer)
     c.lines-in-Findings.ensures)

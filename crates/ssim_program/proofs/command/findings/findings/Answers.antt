@@ -32,6 +32,6 @@ returns-clause-answer g c =
             (map (λ t. t.now) c.args.flights.now) (Ok choice)) here c.in_ok-choice.ensures,
         c.in_ok-lines.ensures
             ∙ (λ i. let spanned = c.has_end.ensures i in
-            findings_lines c.args.not_acted spanned choice (lines_found spanned choice desk)),
+            findings_lines c.args.form spanned choice (lines_found spanned choice desk)),
       ),
     )
