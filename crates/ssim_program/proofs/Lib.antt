@@ -12,6 +12,7 @@ pub mod Airlines
 pub mod Opening
 pub mod Within
 pub mod RefusalTexts
+pub mod RefusalNames
 pub mod Mailboxes
 pub mod Rehearsing
 pub mod Outcomes

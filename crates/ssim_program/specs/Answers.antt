@@ -41,10 +41,10 @@ use Rattle.ssim_program.specs.Exports.{ReadsAsItself, export_in}
 use Rattle.ssim_program.specs.Answer.{Answer, Finds, Gives, Known, OrElse, Require, ◌>>=◌}
 use Rattle.ssim_program.specs.Choices.{choice_in}
 use Rattle.ssim_program.specs.Desks.{desk_in, held_line, merged, text_taken}
-use Rattle.ssim_program.specs.Explained.{Explains}
+use Rattle.ssim_program.specs.Explained.{Explains, RefusesExplain}
 use Rattle.ssim_program.specs.Files.{Files}
 use Rattle.ssim_program.specs.Made.{AreLinesOn, base_in, data_set_in, problem_lines, problems_in}
-use Rattle.ssim_program.specs.Made.{RefusesLoad, problem_rows}
+use Rattle.ssim_program.specs.Made.{problem_rows}
 use Rattle.ssim_program.specs.Messages.{flights_on, message_texts, messages_on}
 use Rattle.ssim_program.specs.Places.{place_in}
 use Rattle.ssim_program.specs.Splitting.{split}
@@ -327,10 +327,10 @@ rehearse files dataset stations script (Ok lines) =
     RehearsesFiles files dataset stations script lines
 rehearse files dataset stations script (Err why) = RefusesLines files dataset stations script why
 
--- an explanation of the refusals of a number, or of what is invalid in a file
+-- an explanation of the refusals of a number or a name, or of what is invalid in a file
 abbrev pub explain : Option Files → Text → Answer (List ℕ)
 explain files word (Ok lines) = Explains files word lines
-explain files word (Err why) = RefusesLoad files word why
+explain files word (Err why) = RefusesExplain files word why
 
 -- ---- all
 

@@ -32,7 +32,8 @@ use Rattle.ssim_program.specs.Foreign.{BeginsWithForeign, begins_with, foreign_k
 use Rattle.ssim_command_line.specs.Line.{Text}
 use Rattle.ssim_program.specs.Made.{HasFile, IsMissing, IsOfBytes, file_limit}
 use Rattle.ssim_program.specs.Mailboxes.{BeginsWithMailbox, is_mail, is_mailbox}
-use Rattle.ssim_program.specs.print.Refusal.{refusal_head, refusal_name, refusal_number, refusal_text}
+use Rattle.ssim_program.specs.print.Refusal.{IsMemory, IsOfFile, refusal_head, refusal_name}
+use Rattle.ssim_program.specs.print.Refusal.{refusal_number, refusal_text}
 use Rattle.ssim_program.specs.rehearse.Script.{RefusesScript, Script, SpellsScript}
 use Rattle.ssim_program.specs.declared.explain.file_kind.FileKind.{FileKind}
 use Rattle.ssim_program.specs.declared.explain.file_kind.FileKind.TheVariants as kind
@@ -71,13 +72,30 @@ ExplainsNumber number printed =
 
 -- ---- a name
 
--- The word is the name of the refusal, in any case, and the text explains the refusal. Or the word is
--- a line that a command printed of such a refusal, and the text is that line with the words on it.
+-- the word is the name of the refusal, in any case
+abbrev pub IsName : Text → Refusal → Type 0
+IsName word refusal =
+    map to_ascii_lowercase (refusal_name refusal) ≡ map to_ascii_lowercase word
+
+-- the word begins with `refused`, the refusal's number and its name, as a line that a command printed
+abbrev pub IsLine : Text → Refusal → Type 0
+IsLine word refusal = begins_with word (refusal_head refusal) ≡ true
+
+-- the word names the refusal
+abbrev pub Names : Text → Refusal → Type 0
+Names word refusal = IsName word refusal ⊎ IsLine word refusal
+
+-- the word names no refusal that a command may have
+abbrev pub NamesNone : Text → Type 0
+NamesNone word =
+    (refusal : Refusal) → is_refusal (refusal_number refusal) ≡ true → Names word refusal → ⊥
+
+-- The word is the name of the refusal, and the text explains the refusal. Or the word is a line that a
+-- command printed of such a refusal, and the text is that line with the words on it.
 abbrev pub ExplainsNamed : Text → Refusal → List ℕ → Type 0
 ExplainsNamed word refusal printed =
-    ((map to_ascii_lowercase (refusal_name refusal) ≡ map to_ascii_lowercase word)
-    × BeginsWith refusal printed)
-    ⊎ ((begins_with word (refusal_head refusal) ≡ true) × HasWords (line word) refusal printed)
+    (IsName word refusal × BeginsWith refusal printed)
+    ⊎ (IsLine word refusal × HasWords (line word) refusal printed)
 
 -- the text explains a refusal that a command may have and that the word names
 abbrev pub ExplainsName : Text → List ℕ → Type 0
@@ -198,3 +216,14 @@ abbrev pub Explains : Option Files → Text → List ℕ → Type 0
 Explains files word printed =
     ((number : ℕ) × (number_in word ≡ Some number) × ExplainsNumber number printed)
     ⊎ ((number_in word ≡ None) × ExplainsWord files word printed)
+
+-- Why a word that is no number is not explained: memory ran out. Or there is no file of this name
+-- within the limit, and the word names no refusal.
+abbrev pub RefusesWord : Option Files → Text → Refusal → Type 0
+RefusesWord files word refusal = IsMemory refusal
+    ⊎ (IsOfFile 91 (codes "File") word refusal × IsMissing files word × NamesNone word)
+
+-- why nothing is explained: memory ran out, or the word is no number and is not explained
+abbrev pub RefusesExplain : Option Files → Text → Refusal → Type 0
+RefusesExplain files word refusal =
+    IsMemory refusal ⊎ ((number_in word ≡ None) × RefusesWord files word refusal)

@@ -5,8 +5,7 @@ ghost use Rattle.std.specs.Fmt.{decimal};
 ghost use Rattle.ssim_base.specs.Export.{line};
 ghost use Rattle.ssim_values.specs.Characters.{two_digits_of};
 ghost use Rattle.ssim_program.specs.Explained.{BeginsWith, ExplainsNumber, ExplainsWord, HasWords};
-ghost use Rattle.ssim_program.specs.Explained.{number_in};
-ghost use Rattle.ssim_program.specs.Made.{RefusesLoad};
+ghost use Rattle.ssim_program.specs.Explained.{RefusesWord, number_in};
 ghost use Rattle.ssim_program.specs.Answers.{explain};
 ghost use Rattle.ssim_program.specs.internal.Program.{Answers};
 
@@ -48,17 +47,17 @@ pub(crate) fn explain<S: Store>(
 /// What is printed on the file of this name or, if there is none, on the refusal of this name.
 fn on_file<S: Store>(alloc: Global, name: &str, store: &mut S) -> Result<Vec<u8>, Refusal>
     ensures ok { IfOk result (λ text. ExplainsWord (S.files store.old) name.now text.items) }
-    ensures err { IfErr result (RefusesLoad (S.files store.old) name.now) }
+    ensures err { IfErr result (RefusesWord (S.files store.old) name.now) }
     ensures same { S.files store.new ≡ S.files store.old }
     ensures counted { S.failures store.new ≡ S.failures store.old }
 {
     match load_file(alloc, name, store) {
         Ok(bytes) => Ok(on_bytes(alloc, &bytes)?),
-        Err(Refusal::File { name: printed }) => match on_name(alloc, name)? {
+        Err(refusal) if refusal.number() == Memory.number() => Err(refusal),
+        Err(refusal) => match on_name(alloc, name)? {
             Some(text) => Ok(text),
-            None => Err(Refusal::File { name: printed }),
+            None => Err(refusal),
         },
-        Err(refusal) => Err(refusal),
     }
 }
 

@@ -1,5 +1,7 @@
--- What is found in a file, what becomes of the texts of a mailbox, and what is an example of refusals.
+-- What is found in a file, what becomes of the texts of a mailbox, what is an example of refusals, and
+-- which of them a word names.
 use Rattle.std.specs.Prelude.{◌≡◌, ℕ, List, Option, Some, None, false, true}
+use Rattle.ssim_command_line.specs.Line.{Text}
 use Rattle.ssim_guide.specs.Words.{is_refusal}
 use Rattle.ssim_mailbox.specs.Texts.{MailText}
 use Rattle.ssim_mailbox.specs.clauses.Mail.{mail_of}
@@ -7,7 +9,7 @@ use Rattle.ssim_text.specs.declared.fault.TextFault.{TextFault}
 use Rattle.ssim_program.specs.declared.explain.file_kind.FileKind.{FileKind}
 use Rattle.ssim_program.specs.declared.explain.mail.TriedText.{TriedText}
 use Rattle.ssim_program.specs.declared.refusal.Refusal.{Refusal}
-use Rattle.ssim_program.specs.Explained.{IsInvalid, IsValid}
+use Rattle.ssim_program.specs.Explained.{IsInvalid, IsValid, Names}
 use Rattle.ssim_program.specs.print.Refusal.{refusal_number}
 
 -- the refusal of a file, or that it is valid
@@ -23,3 +25,8 @@ tried_of t = (mail_of t.text, t.fault)
 abbrev pub IsExample : ℕ → Option Refusal → Type 0
 IsExample number (Some r) = (is_refusal number ≡ true) × (refusal_number r ≡ number)
 IsExample number None = is_refusal number ≡ false
+
+-- the word names no refusal of this number that a command may have
+abbrev pub NamesNoneOf : ℕ → Text → Type 0
+NamesNoneOf number word = is_refusal number ≡ true
+    → (refusal : Refusal) → refusal_number refusal ≡ number → Names word refusal → ⊥
