@@ -1,7 +1,7 @@
 -- Lines with options, computed: which command the words name.
 use Rattle.std.proofs.Common.{◌≡◌, true, false, refl, [], ◌∷◌, Some, None, codes}
 use Rattle.clap.proofs.OnLiterals.{clap_on_literals}
-use Rattle.ssim_command_line.specs.Line.{Board, Calendar, ChoiceTexts, Findings, Listing, Receive}
+use Rattle.ssim_command_line.specs.Line.{Board, Calendar, ChoiceTexts, Diff, Findings, Listing, Receive}
 use Rattle.ssim_command_line.specs.Line.{Select, days_in}
 use Rattle.ssim_command_line.specs.declared.board_form.Direction.TheVariants.{Arrivals}
 use Rattle.ssim_command_line.specs.Usage.{Names}
@@ -53,6 +53,19 @@ two_flights : Names (codes "ssimdesk" ∷ codes "calendar" ∷ codes "--from" �
     (codes "fdh.desk") (codes "341" ∷ codes "342" ∷ []))
 unfolding clap_on_literals
 two_flights = record { right = refl; name = codes "calendar"; rows = _; entered = refl; read = refl }
+
+-- `diff --station KEF season.ssim fdh.desk 341`: a flight between two timetables
+one_flight : Names (codes "ssimdesk" ∷ codes "diff" ∷ codes "--station" ∷ codes "KEF"
+    ∷ codes "season.ssim" ∷ codes "fdh.desk" ∷ codes "341" ∷ [])
+    (Diff (record {
+      from = None;
+      to = None;
+      stations = codes "KEF" ∷ [];
+      aircraft = [];
+    })
+    (codes "season.ssim") (codes "fdh.desk") (codes "341" ∷ []))
+unfolding clap_on_literals
+one_flight = record { right = refl; name = codes "diff"; rows = _; entered = refl; read = refl }
 
 -- `findings --from 20jul27 fdh.desk 341`: a span without an end
 from_a_date : Names (codes "ssimdesk" ∷ codes "findings" ∷ codes "--from" ∷ codes "20jul27"

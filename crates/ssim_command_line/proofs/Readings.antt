@@ -14,7 +14,7 @@ use Rattle.ssim_command_line.specs.Line.{three_values, two, two_and_texts}
 use Rattle.ssim_command_line.specs.Line.{board_form_of, board_words, formed_three}
 use Rattle.ssim_command_line.specs.Line.{choice_of, choice_words, findings_form_of, flag, form_of, is_given, optional}
 use Rattle.ssim_command_line.specs.Line.{several_texts, span_of, span_words}
-use Rattle.ssim_command_line.specs.Line.{two_values, values_in}
+use Rattle.ssim_command_line.specs.Line.{two_and_any, two_values, values_in}
 use Rattle.ssim_command_line.specs.Line.{Board, Calendar, Check, Diff, Explain, Export, Findings, History, Listing}
 use Rattle.ssim_command_line.specs.Line.{Merge, Page, Problems, Publish, Receive, Rehearse, Select, Show, Start}
 use Rattle.ssim_command_line.specs.Line.{Carry, Convert, Info, Split, Take, Texts, Tidy, Withdraw, mode_and_two}
@@ -204,6 +204,15 @@ several_reader name words make r (a ∷ []) e = no_line e
 several_reader name words make r (a ∷ b ∷ []) e = no_line e
 several_reader name words make r (a ∷ b ∷ t ∷ rest) e = taken (r a b) t rest
 
+any_reader : (name : Text) (words : List Rule) (make : List Row → Text → Text → List Text → Line)
+    → (let c = by name words (λ rows. two_and_any (make rows)) in
+    (a b : Text) → Reads c (a ∷ b ∷ []) × TakesTexts c (a ∷ b ∷ []) (λ texts. Some (make [] a b texts)))
+    → IsReader (by name words (λ rows. two_and_any (make rows)))
+any_reader name words make r [] e = no_line e
+any_reader name words make r (a ∷ []) e = no_line e
+any_reader name words make r (a ∷ b ∷ []) e = (r a b).0
+any_reader name words make r (a ∷ b ∷ t ∷ rest) e = taken (r a b).1 t rest
+
 -- ---- the commands
 
 module _ (name : Text) where
@@ -260,6 +269,10 @@ abbrev pub calendar_row : Command
 calendar_row = by (codes "calendar") (one_value ++ several_texts ∷ choice_words)
     (λ rows. one_and_several (Calendar (choice_of rows)))
 
+abbrev pub diff_row : Command
+diff_row = by (codes "diff") (two_values ++ any_texts ∷ choice_words)
+    (λ rows. two_and_any (Diff (choice_of rows)))
+
 abbrev pub findings_row : Command
 findings_row = by (codes "findings")
     (one_value ++ any_texts ∷ flag (codes "csv") ∷ flag (codes "not-acted") ∷ span_words)
@@ -315,6 +328,11 @@ unfolding clap_on_literals
 calendar_read = some_reader calendar_row.name calendar_row.words (λ rows. Calendar (choice_of rows))
     (λ a. record { enter = λ t rest. refl; first = λ t u. refl; later = λ x seen t u. refl })
 
+pub diff_read : IsReader diff_row
+unfolding clap_on_literals
+diff_read = any_reader diff_row.name diff_row.words (λ rows. Diff (choice_of rows))
+    (λ a b. (refl, record { enter = λ t rest. refl; first = λ t u. refl; later = λ x seen t u. refl }))
+
 pub findings_read : IsReader findings_row
 unfolding clap_on_literals
 findings_read = texts_reader findings_row.name findings_row.words
@@ -360,7 +378,7 @@ readers =
     ∷ record { row = board_row; reads = board_read }
     ∷ record { row = calendar_row; reads = calendar_read }
     ∷ with_one (codes "info") Info
-    ∷ with_two (codes "diff") Diff
+    ∷ record { row = diff_row; reads = diff_read }
     ∷ record { row = command (codes "publish") four_values (four Publish); reads = four_plain (codes "publish") Publish }
     ∷ record { row = page_row; reads = page_read }
     ∷ record { row = findings_row; reads = findings_read }

@@ -55,7 +55,7 @@ pub data Line : Type 0 where
   Calendar : (choice : ChoiceTexts) (file : Text) (flights : List Text) → Line
   Info : (file : Text) → Line
   Page : (from : Option Text) (file : Text) → Line
-  Diff : (from to : Text) → Line
+  Diff : (choice : ChoiceTexts) (from to : Text) (flights : List Text) → Line
   Publish : (from to reference out : Text) → Line
   Findings : (form : FindingsForm) (span : SpanTexts) (desk : Text) (flights : List Text) → Line
   Export : (desk : Text) → Line
@@ -107,7 +107,8 @@ line_of (request.Calendar choice file flights) =
     Calendar (choice_line choice) file.now (map (λ t. t.now) flights.items)
 line_of (request.Info file) = Info file.now
 line_of (request.Page from file) = Page (option_map (λ f. f.now) from) file.now
-line_of (request.Diff from to) = Diff from.now to.now
+line_of (request.Diff choice from to flights) =
+    Diff (choice_line choice) from.now to.now (map (λ t. t.now) flights.items)
 line_of (request.Publish from to reference out) = Publish from.now to.now reference.now out.now
 line_of (request.Findings form span desk flights) =
     Findings form (span_line span) desk.now (map (λ t. t.now) flights.items)
@@ -301,6 +302,10 @@ abbrev pub two_and_texts : (Text → Text → List Text → Line) → List Text 
 two_and_texts make (a ∷ b ∷ t ∷ texts) = Some (make a b (t ∷ texts))
 two_and_texts make _ = None
 
+abbrev pub two_and_any : (Text → Text → List Text → Line) → List Text → Option Line
+two_and_any make (a ∷ b ∷ texts) = Some (make a b texts)
+two_and_any make _ = None
+
 -- ---- the table
 
 -- a command: its name, its words, and the line that its options and values make
@@ -356,7 +361,11 @@ commands =
       make = λ rows. one_and_several (Calendar (choice_of rows));
     }
     ∷ command (codes "info") one_value (one Info)
-    ∷ command (codes "diff") two_values (two Diff)
+    ∷ record {
+      name = codes "diff";
+      words = two_values ++ any_texts ∷ choice_words;
+      make = λ rows. two_and_any (Diff (choice_of rows));
+    }
     ∷ command (codes "publish") four_values (four Publish)
     ∷ command (codes "page") one_or_two_values (one_or_two Page)
     ∷ record {

@@ -174,10 +174,13 @@ pub enum Request<'a> {
         from: Option<&'a str>,
         file: &'a str,
     },
-    /// Print on which dates flights differ in two timetables, of desks or of data sets.
+    /// Print on which of the chosen dates flights differ in two timetables, of desks or of data sets: all
+    /// flights, or these.
     Diff {
+        choice: ChoiceWords<'a>,
         from: &'a str,
         to: &'a str,
+        flights: Vec<&'a str>,
     },
     /// Write the messages that lead one timetable to another, under references from this one on.
     Publish {

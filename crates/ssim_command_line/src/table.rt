@@ -323,7 +323,9 @@ prints lines such as
 for: kind, airline, season, validity, mode, created and records; flights,
 stations, dates, first and last; of a desk also rows, messages and latest.
 Exit status: 0; 1 if the file is refused."
-        "diff" [First("FROM"), Second("TO")] => Diff(from, to)
+        "diff" [First("FROM"), Second("TO"), Any("FLIGHT"), Valued("from", "DATE"), Valued("to", "DATE"),
+            Repeated("station", "STATION"), Repeated("aircraft", "TYPE")]
+            => Diff(from, to; flights; choice = choice_of)
         "Print on which dates two timetables differ, and how"
         "\
 Example:
@@ -339,8 +341,13 @@ is 'same':
   ...
   different flights 13 dates 101
 Legs of one sequence that differ although their lines are equal end in ' *'.
-Exit status: 0, also if they differ; 1 if a file is refused, or the airline (41)
-or the time mode (40) of TO is another one."
+  ssimdesk diff --from 1jul27 --station PMI season.ssim fdh.desk 341
+prints of these flights only the dates that 'list' chooses of FROM or of TO by
+the same words, with the legs of both, and the last line counts these.
+Exit status: 0, also if they differ; 1 if a file is refused, the airline (41) or
+the time mode (40) of TO is another one, a word is no flight (6), station (3),
+aircraft type (25) or date (1), the airline of a flight is another one (41), or
+--from is after --to (43)."
         "publish" [First("FROM"), Second("TO"), Third("REFERENCE"), Fourth("OUT")]
             => Publish(from, to, reference, out)
         "Write the SSM texts that lead one timetable to another"

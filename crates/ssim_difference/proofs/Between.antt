@@ -20,6 +20,12 @@ between_pieces before after =
     (λ n. difference (on_day before n) (on_day after n))
     (λ n h. ap₂ difference (held_pieces before n) (held_pieces after n))
 
+-- the difference of two lists of pieces that are those of days
+pub between_lists : (old new : List Piece) (before after : Days) → old ≡ pieces before
+    → new ≡ pieces after → days_between old new ≡ differing_days before after
+between_lists old new before after old_is new_is =
+    ap₂ days_between old_is new_is ∙ between_pieces before after
+
 -- no legs are held where no piece is
 first_of_none : (before : List Piece) (piece : Piece) (n : ℕ) → AreDisjoint (before ++ piece ∷ [])
     → holds piece.0 n ≡ true

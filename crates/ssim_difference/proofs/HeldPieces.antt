@@ -32,6 +32,10 @@ pieces_disjoint days n =
     (sym ((pieces_law same_itinerary [] exact_itinerary days).on_each_day n))
     (alone-short same_itinerary [] (on_day days n))
 
+-- no day is held by two pieces that are those of days
+pub are_disjoint : (ps : List Piece) (days : Days) → ps ≡ pieces days → AreDisjoint ps
+are_disjoint ps days is = subst (λ (qs : List Piece). AreDisjoint qs) (sym is) (pieces_disjoint days)
+
 -- ---- one piece more
 
 one_held : (piece : Piece) (n : ℕ) (b : Bool) → holds piece.0 n ≡ b

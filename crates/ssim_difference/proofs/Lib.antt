@@ -1,4 +1,5 @@
 pub mod DateDifferences
+pub mod Choosing
 pub mod HeldPieces
 pub mod Between
 pub mod Pieces

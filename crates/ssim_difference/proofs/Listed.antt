@@ -2,7 +2,7 @@
 -- flight that flies in one of them is met once, and no other flight differs.
 use Rattle.std.proofs.Common.{◌≡◌, ◌∙◌, ℕ, zero, suc, ◌+◌, ◌/◌, ◌%◌, ◌<◌, ◌≤◌, Bool, true, false}
 use Rattle.std.proofs.Common.{nat_eq, nat_lt, if◌then◌else◌, List, [], ◌∷◌, ◌++◌, filter, length, map}
-use Rattle.std.proofs.Common.{Some, None, refl, sym, ap, ap₂, subst, arith, append_assoc}
+use Rattle.std.proofs.Common.{Option, Some, None, refl, sym, ap, ap₂, subst, arith, append_assoc}
 use Rattle.std.proofs.lemmas.List.{append-nil}
 use Rattle.std.specs.List.{range_with_len}
 use Rattle.std.specs.Cmp.{nat_cmp_is}
@@ -20,9 +20,12 @@ use Rattle.ssim_base.proofs.Places.{flight-is, flight-place, place-below}
 use Rattle.ssim_schedule.specs.FlightPieces.{Divided, divided, flies}
 use Rattle.ssim_difference.specs.Differences.{Compared, NoneDiffer, compared, difference_pieces}
 use Rattle.ssim_difference.specs.Differences.{differences, differs}
+use Rattle.ssim_parts.specs.Chosen.{Choosing}
 use Rattle.ssim_difference.specs.internal.Between.{held}
+use Rattle.ssim_difference.specs.internal.Choosing.{part}
 use Rattle.ssim_difference.specs.internal.Matched.{Matched, flight_cmp, in_both, lesser, listed, next}
 use Rattle.ssim_difference.specs.internal.Matched.{only_new, only_old}
+use Rattle.ssim_difference.proofs.Choosing.{nothing_left}
 use Rattle.ssim_difference.proofs.HeldPieces.{held_pieces}
 use Rattle.ssim_difference.proofs.Pieces.{equal_on, quiet}
 
@@ -124,12 +127,15 @@ first_rank days a (suc count) first later h =
 
 -- ---- no difference
 
--- a flight that flies in neither timetable does not differ
-quiet_flight : (before after : FlightNumber → Days) (f : FlightNumber) → pieces (before f) ≡ []
-    → pieces (after f) ≡ [] → differs (compared before after f) ≡ false
-quiet_flight before after f none none_too =
-    ap (λ ps. nat_lt 0 (length ps)) (quiet (before f) (after f) (λ n h. nothing (before f) n none
-    ∙ sym (nothing (after f) n none_too)))
+-- a flight that flies in neither timetable does not differ, on whatever dates are chosen
+quiet_flight : (choice : Option Choosing) (before after : FlightNumber → Days) (f : FlightNumber)
+    → pieces (before f) ≡ [] → pieces (after f) ≡ []
+    → differs (compared (part choice before after before) (part choice before after after) f) ≡ false
+quiet_flight choice before after f none none_too =
+    let of = part choice before after in
+    ap (λ ps. nat_lt 0 (length ps)) (quiet (of before f) (of after f) (λ n h.
+    nothing_left choice before after before f n h (nothing (before f) n none)
+    ∙ sym (nothing_left choice before after after f n h (nothing (after f) n none_too))))
   where
     nothing : (days : Days) (n : ℕ) → pieces days ≡ [] → on_day days n ≡ []
     nothing days n e = sym (held_pieces days n) ∙ ap (λ (ps : List Piece). held ps n) e
@@ -152,15 +158,17 @@ listed_first false flight rest = refl
 
 -- after the next flight: the rank from which flights are left, the pieces of the flight, and what it
 -- adds to the list
-pub record Stepped (before after : FlightNumber → Days) (a count : ℕ) (met : Matched) : Type 0 where
+pub record Stepped (choice : Option Choosing) (before after : FlightNumber → Days) (a count : ℕ)
+    (met : Matched) : Type 0 where
   pub rank : ℕ
   pub left : ℕ
   pub old_left : met.old_left ≡ flying before rank left
   pub new_left : met.new_left ≡ flying after rank left
   pub old_is : met.old ≡ pieces (before met.flight)
   pub new_is : met.new ≡ pieces (after met.flight)
-  pub listed_is : differing before after a count
-      ≡ listed (compared before after met.flight) ++ differing before after rank left
+  pub listed_is : differing (part choice before after before) (part choice before after after) a count
+      ≡ listed (compared (part choice before after before) (part choice before after after) met.flight)
+      ++ differing (part choice before after before) (part choice before after after) rank left
 
 met_same : (x y : Matched) → Some x ≡ Some y → x ≡ y
 met_same x y h = cc
@@ -168,7 +176,14 @@ met_same x y h = cc
 met_none : (y : Matched) → None ≡ Some y → ⊥
 met_none y h = cc
 
-module _ (before after : FlightNumber → Days) where
+module _ (choice : Option Choosing) (before after : FlightNumber → Days) where
+  -- what is compared of the two timetables
+  abbrev old_part : FlightNumber → Days
+  old_part = part choice before after before
+
+  abbrev new_part : FlightNumber → Days
+  new_part = part choice before after after
+
   next_old : (a count : ℕ) (zs : List Divided) → flying after (a + 1) count ≡ zs
       → next (divided before (flight_at a) ∷ flying before (a + 1) count) zs
       ≡ Some (only_old (divided before (flight_at a)) (flying before (a + 1) count) zs)
@@ -207,7 +222,7 @@ module _ (before after : FlightNumber → Days) where
 
   pub stepped : (a count : ℕ) (met : Matched)
       → next (flying before a count) (flying after a count) ≡ Some met
-      → Stepped before after a count met
+      → Stepped choice before after a count met
   stepped a zero met h = absurd (met_none met h)
   stepped a (suc count) met h = by (flies one) (flies other) refl refl
       (λ e g. stepped (a + 1) count met (both_here false false e g))
@@ -233,18 +248,18 @@ module _ (before after : FlightNumber → Days) where
           sym (ap₂ next (ap (λ (t : Bool). if t then one ∷ xs else xs) e)
           (ap (λ (t : Bool). if t then other ∷ ys else ys) g)) ∙ h
 
-      adds : differing before after a (suc count)
-          ≡ listed (compared before after f) ++ differing before after (a + 1) count
-      adds = listed_first (differs (compared before after f)) (compared before after f)
-          (differing before after (a + 1) count)
+      adds : differing old_part new_part a (suc count)
+          ≡ listed (compared old_part new_part f) ++ differing old_part new_part (a + 1) count
+      adds = listed_first (differs (compared old_part new_part f)) (compared old_part new_part f)
+          (differing old_part new_part (a + 1) count)
 
-      to_met : (m : Matched) → Some m ≡ Some met → Stepped before after a (suc count) m
-          → Stepped before after a (suc count) met
-      to_met m e s = subst (λ (n : Matched). Stepped before after a (suc count) n) (met_same m met e) s
+      to_met : (m : Matched) → Some m ≡ Some met → Stepped choice before after a (suc count) m
+          → Stepped choice before after a (suc count) met
+      to_met m e s = subst (λ (n : Matched). Stepped choice before after a (suc count) n) (met_same m met e) s
 
       by : (x y : Bool) → flies one ≡ x → flies other ≡ y
-          → (flies one ≡ false → flies other ≡ false → Stepped before after (a + 1) count met)
-          → Stepped before after a (suc count) met
+          → (flies one ≡ false → flies other ≡ false → Stepped choice before after (a + 1) count met)
+          → Stepped choice before after a (suc count) met
       by true true e g go_on =
           to_met (in_both one other xs ys) (sym (next_both a count)
           ∙ both_here true true e g) (record {
@@ -280,7 +295,7 @@ module _ (before after : FlightNumber → Days) where
           })
       by false false e g go_on =
           let later = go_on e g in
-          let silent = quiet_flight before after f (no_element (pieces (before f)) e)
+          let silent = quiet_flight choice before after f (no_element (pieces (before f)) e)
           (no_element (pieces (after f)) g) in
           record {
             rank = later.rank;
@@ -289,12 +304,12 @@ module _ (before after : FlightNumber → Days) where
             new_left = later.new_left;
             old_is = later.old_is;
             new_is = later.new_is;
-            listed_is = differs_first before after a count false silent ∙ later.listed_is;
+            listed_is = differs_first old_part new_part a count false silent ∙ later.listed_is;
           }
 
   -- no flight is left
   pub none_left : (a count : ℕ) → flying before a count ≡ [] → flying after a count ≡ []
-      → differing before after a count ≡ []
+      → differing old_part new_part a count ≡ []
   none_left a zero h k = refl
   none_left a (suc count) h k =
       by (flies (divided before (flight_at a))) (flies (divided after (flight_at a))) refl refl
@@ -304,8 +319,8 @@ module _ (before after : FlightNumber → Days) where
       by : (x y : Bool) → flies (divided before (flight_at a)) ≡ x
           → flies (divided after (flight_at a)) ≡ y
           → (flies (divided before (flight_at a)) ≡ false → flies (divided after (flight_at a)) ≡ false
-          → differing before after (a + 1) count ≡ [])
-          → differing before after a (suc count) ≡ []
+          → differing old_part new_part (a + 1) count ≡ [])
+          → differing old_part new_part a (suc count) ≡ []
       by true y e g go_on = absurd
           (filled (divided before (flight_at a)) (flying before (a + 1) count)
           (sym (flying_first before a count true e) ∙ h))
@@ -313,38 +328,44 @@ module _ (before after : FlightNumber → Days) where
           (filled (divided after (flight_at a)) (flying after (a + 1) count)
           (sym (flying_first after a count true g) ∙ k))
       by false false e g go_on =
-          let silent = quiet_flight before after (flight_at a)
+          let silent = quiet_flight choice before after (flight_at a)
           (no_element (pieces (before (flight_at a))) e)
           (no_element (pieces (after (flight_at a))) g) in
-          differs_first before after a count false silent ∙ go_on e g
+          differs_first old_part new_part a count false silent ∙ go_on e g
 
 -- what is left of both lists after some flights, and what was listed of these
-pub record AreLeft (before after : FlightNumber
-    → Days) (found : List Compared) (old new : List Divided) : Type 0 where
+pub record AreLeft (choice : Option Choosing) (before after : FlightNumber → Days)
+    (found : List Compared) (old new : List Divided) : Type 0 where
   pub rank : ℕ
   pub left : ℕ
   pub old_is : old ≡ flying before rank left
   pub new_is : new ≡ flying after rank left
-  pub listed_is : found ++ differing before after rank left ≡ differences before after
+  pub listed_is :
+      found ++ differing (part choice before after before) (part choice before after after) rank left
+      ≡ differences (part choice before after before) (part choice before after after)
 
 -- the pieces of the next flight are those of its days
-pub met_pieces : (before after : FlightNumber
-    → Days) (found : List Compared) (old new : List Divided) (met : Matched)
-    → AreLeft before after found old new
+pub met_pieces : (choice : Option Choosing) (before after : FlightNumber → Days)
+    (found : List Compared) (old new : List Divided) (met : Matched)
+    → AreLeft choice before after found old new
     → next old new ≡ Some met
     → (met.old ≡ pieces (before met.flight)) × (met.new ≡ pieces (after met.flight))
-met_pieces before after found old new met left h =
-    let s = stepped before after left.rank left.left met (sym (ap₂ next left.old_is left.new_is)
+met_pieces choice before after found old new met left h =
+    let s = stepped choice before after left.rank left.left met (sym (ap₂ next left.old_is left.new_is)
     ∙ h) in (s.old_is, s.new_is)
 
 -- what is left after the next flight
-pub left_after : (before after : FlightNumber
-    → Days) (found now : List Compared) (old new : List Divided) (met : Matched)
-    → AreLeft before after found old new
-    → next old new ≡ Some met → now ≡ found ++ listed (compared before after met.flight)
-    → AreLeft before after now met.old_left met.new_left
-left_after before after found now old new met left h is =
-    let s = stepped before after left.rank left.left met (sym (ap₂ next left.old_is left.new_is)
+pub left_after : (choice : Option Choosing) (before after : FlightNumber → Days)
+    (found now : List Compared) (old new : List Divided) (met : Matched)
+    → AreLeft choice before after found old new
+    → next old new ≡ Some met
+    → now ≡ found ++ listed (compared (part choice before after before)
+    (part choice before after after) met.flight)
+    → AreLeft choice before after now met.old_left met.new_left
+left_after choice before after found now old new met left h is =
+    let one = part choice before after before in
+    let other = part choice before after after in
+    let s = stepped choice before after left.rank left.left met (sym (ap₂ next left.old_is left.new_is)
     ∙ h) in
     record {
       rank = s.rank;
@@ -352,9 +373,9 @@ left_after before after found now old new met left h is =
       old_is = s.old_left;
       new_is = s.new_left;
       listed_is =
-          ap (λ (cs : List Compared). cs ++ differing before after s.rank s.left) is
-          ∙ append_assoc found (listed (compared before after met.flight))
-          (differing before after s.rank s.left)
+          ap (λ (cs : List Compared). cs ++ differing one other s.rank s.left) is
+          ∙ append_assoc found (listed (compared one other met.flight))
+          (differing one other s.rank s.left)
           ∙ ap (λ (cs : List Compared). found ++ cs) (sym s.listed_is)
           ∙ left.listed_is;
     }
@@ -368,14 +389,15 @@ both_empty (one ∷ old) (other ∷ new) h = absurd
     (met_none (lesser (flight_cmp one.0 other.0) one old other new) (sym h))
 
 -- the flights that differ, if none is left
-pub all_listed : (before after : FlightNumber → Days) (found : List Compared) (old new : List Divided)
-    → AreLeft before after found old new
-    → next old new ≡ None → found ≡ differences before after
-all_listed before after found old new left h =
+pub all_listed : (choice : Option Choosing) (before after : FlightNumber → Days)
+    (found : List Compared) (old new : List Divided)
+    → AreLeft choice before after found old new → next old new ≡ None
+    → found ≡ differences (part choice before after before) (part choice before after after)
+all_listed choice before after found old new left h =
     let none = both_empty old new h in
     sym (append-nil found)
     ∙ ap (λ (cs : List Compared). found ++ cs)
-    (sym (none_left before after left.rank left.left (sym left.old_is ∙ none.0) (sym left.new_is
+    (sym (none_left choice before after left.rank left.left (sym left.old_is ∙ none.0) (sym left.new_is
     ∙ none.1)))
     ∙ left.listed_is
 

@@ -1,4 +1,5 @@
 pub mod Differences
+pub mod ChosenDates
 pub mod Lines
 pub mod clauses
 pub mod internal

@@ -1,5 +1,6 @@
 -- Definitions that only private functions and computed examples cite, so nobody has to believe
 -- them.
 pub mod Between
+pub mod Choosing
 pub mod Matched
 pub mod Counted

@@ -1,13 +1,19 @@
 //! The dates on which a flight differs, in periods.
 
 ghost use Rattle.std.specs.Prelude.{◌≡◌, ◌⊎◌, ◌+◌, ◌<◌, length, slice_get, IfOk, Some, true};
+ghost use Rattle.std.specs.Option.{option_map};
+ghost use Rattle.ssim_values.specs.Flight.{FlightNumber};
 ghost use Rattle.ssim_base.specs.Timetable.{Days};
 ghost use Rattle.ssim_base.specs.Export.{pieces};
-ghost use Rattle.ssim_difference.specs.Differences.{difference_pieces, differs};
+ghost use Rattle.ssim_difference.specs.ChosenDates.{chosen_side};
+ghost use Rattle.ssim_difference.specs.Differences.{compared, differing_days, differs};
 ghost use Rattle.ssim_difference.specs.internal.Between.{AreDisjoint, days_between};
+ghost use Rattle.ssim_difference.specs.internal.Choosing.{part};
 
+use crate::chosen::choose;
 use crate::difference::Difference;
 use crate::piece_changes::{NewItinerary, OldItinerary};
+use ssim_parts::Choice;
 use ssim_periods::{Periods, Value};
 use ssim_schedule::Itinerary;
 use ssim_values::{Flight, Memory, Period};
@@ -31,17 +37,20 @@ impl Model for FlightDifference {
 }
 
 impl FlightDifference {
-    /// A flight with the pieces of the difference of two lists of pieces.
+    /// A flight with the pieces of the difference of two lists of pieces, or of what is chosen of it.
     pub(crate) fn between(
         alloc: Global,
+        choice: Option<&Choice>,
         flight: Flight,
         old: &[(Period, Itinerary)],
         new: &[(Period, Itinerary)],
     ) -> Result<FlightDifference, Memory>
-        ensures { (before after : Days) → old.now ≡ pieces before → new.now ≡ pieces after
-            → IfOk result (λ found. found ≡ (flight, difference_pieces before after)) }
+        ensures { (before after : FlightNumber → Days)
+            → old.now ≡ pieces (before flight) → new.now ≡ pieces (after flight)
+            → let of = part (option_map (λ c. c.now) choice.entry) before after in
+            IfOk result (λ found. found ≡ compared (of before) (of after) flight) }
     {
-        let days = days_between(alloc, old, new)?;
+        let days = chosen_between(alloc, choice, flight, old, new)?;
         Ok(FlightDifference {
             flight,
             pieces: days.pieces()?,
@@ -68,6 +77,47 @@ impl FlightDifference {
     {
         &self.pieces
     }
+}
+
+// The difference of two lists of pieces of a flight on each day, or what is chosen of it.
+fn chosen_between(
+    alloc: Global,
+    choice: Option<&Choice>,
+    flight: Flight,
+    old: &[(Period, Itinerary)],
+    new: &[(Period, Itinerary)],
+) -> Result<Periods<Difference>, Memory>
+    ensures { (before after : FlightNumber → Days)
+        → old.now ≡ pieces (before flight) → new.now ≡ pieces (after flight)
+        → let of = part (option_map (λ c. c.now) choice.entry) before after in
+        IfOk result (λ days. days.days ≡ differing_days (of before flight) (of after flight)) }
+{
+    match choice {
+        None => days_between(alloc, old, new),
+        Some(choice) => chosen_days(alloc, choice, flight, old, new),
+    }
+}
+
+// What is chosen of the difference of two lists of pieces of a flight on each day.
+fn chosen_days(
+    alloc: Global,
+    choice: &Choice,
+    flight: Flight,
+    old: &[(Period, Itinerary)],
+    new: &[(Period, Itinerary)],
+) -> Result<Periods<Difference>, Memory>
+    ensures { (before after : FlightNumber → Days)
+        → old.now ≡ pieces (before flight) → new.now ≡ pieces (after flight)
+        → IfOk result (λ days. days.days ≡ differing_days
+        (chosen_side choice.now before after before flight)
+        (chosen_side choice.now before after after flight)) }
+{
+    if !choice.has_flight(flight) {
+        return Ok(Periods::new(alloc));
+    }
+    let mut days = days_between(alloc, old, new)?;
+    choose(choice, &mut days)?;
+    Ok(days)
 }
 
 /// Which piece comes next of two lists in order of first day.

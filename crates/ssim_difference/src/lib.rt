@@ -4,8 +4,9 @@
 //!   [`Value`](ssim_periods::Value), so that `ssim_periods` divides the dates of a flight by it.
 //! - [`differences`]: the [`FlightDifference`]s of two timetables: each flight that differs, with
 //!   the periods on which it does.
+//! - [`chosen_differences`]: the same of the dates of which the old or the new itinerary is chosen.
 //! - [`date_count`]: on how many dates flights differ.
-//! - [`difference_lines`]: the flights that differ as lines, with the old and the new legs.
+//! - [`difference_lines`]: the chosen differences as lines, with the old and the new legs.
 //!   [`push_difference`] adds the lines of one difference.
 //! - [`laws`]: each date that differs is in exactly one period of its flight, and no other date is
 //!   in any; no flight differs exactly if the timetables are equal.
@@ -18,6 +19,7 @@
 //! which a timetable was made nor how it was divided before changes them.
 #![tactic(auto)]
 
+mod chosen;
 mod dates;
 mod difference;
 mod flight_difference;
@@ -31,4 +33,4 @@ pub use difference::Difference;
 pub use flight_difference::FlightDifference;
 pub use lines::{difference_lines, push_difference};
 pub use ssim_values::Memory;
-pub use timetable_difference::differences;
+pub use timetable_difference::{chosen_differences, differences};

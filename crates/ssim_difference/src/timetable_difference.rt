@@ -4,11 +4,14 @@ ghost use Rattle.std.specs.Prelude.{◌≡◌, ◌++◌, IfOk, OnOk};
 ghost use Rattle.ssim_values.specs.Flight.{FlightNumber};
 ghost use Rattle.ssim_base.specs.Timetable.{Days};
 ghost use Rattle.ssim_schedule.specs.FlightPieces.{divided_flights};
+ghost use Rattle.ssim_difference.specs.ChosenDates.{chosen_side};
 ghost use Rattle.ssim_difference.specs.Differences as defined;
+ghost use Rattle.ssim_difference.specs.internal.Choosing.{part};
 ghost use Rattle.ssim_difference.specs.internal.Matched.{listed, next, only_new, only_old, seen};
 ghost use Rattle.std.specs.Option.{option_map};
 
 use crate::flight_difference::FlightDifference;
+use ssim_parts::Choice;
 use ssim_schedule::{FlightPieces, Itinerary};
 use ssim_values::{Flight, Memory, Period};
 use std::alloc::Global;
@@ -36,11 +39,42 @@ pub fn differences(
         → old.now ≡ divided_flights before → new.now ≡ divided_flights after
         → IfOk result (λ listed. listed.items ≡ defined.differences before after) }
 {
+    differing(alloc, None, old, new)
+}
+
+/// The flights that differ on some chosen date, by number and suffix, each with the periods of these
+/// dates. The two lists are those of [`differences`].
+pub fn chosen_differences(
+    alloc: Global,
+    choice: &Choice,
+    old: &[FlightPieces],
+    new: &[FlightPieces],
+) -> Result<Vec<FlightDifference>, Memory>
+    ensures { (before after : FlightNumber → Days)
+        → old.now ≡ divided_flights before → new.now ≡ divided_flights after
+        → IfOk result (λ listed. listed.items ≡ defined.differences
+        (chosen_side choice.now before after before) (chosen_side choice.now before after after)) }
+{
+    differing(alloc, Some(choice), old, new)
+}
+
+// The flights that differ on some date, or on one that is chosen.
+fn differing(
+    alloc: Global,
+    choice: Option<&Choice>,
+    old: &[FlightPieces],
+    new: &[FlightPieces],
+) -> Result<Vec<FlightDifference>, Memory>
+    ensures { (before after : FlightNumber → Days)
+        → old.now ≡ divided_flights before → new.now ≡ divided_flights after
+        → let of = part (option_map (λ c. c.now) choice.entry) before after in
+        IfOk result (λ listed. listed.items ≡ defined.differences (of before) (of after)) }
+{
     let mut listed = Vec::new(alloc);
     let mut old_left = old;
     let mut new_left = new;
     while let Some(next) = next_flight(old_left, new_left) {
-        let found = FlightDifference::between(alloc, next.flight, next.old, next.new)?;
+        let found = FlightDifference::between(alloc, choice, next.flight, next.old, next.new)?;
         add(&mut listed, found)?;
         old_left = next.old_left;
         new_left = next.new_left;

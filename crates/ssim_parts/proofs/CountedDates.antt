@@ -115,7 +115,7 @@ by_day {V} test (piece ∷ ps) a k =
     (λ n l. held_more test piece ps n)
 
 -- the dates of pieces are the days that pass, if each of these is in one piece that passes
-dates_are : {V : Type 0} (test : V → Bool) (ps : List (DayRange × V)) (passes : ℕ → Bool)
+pub dates_are : {V : Type 0} (test : V → Bool) (ps : List (DayRange × V)) (passes : ℕ → Bool)
     → ((n : ℕ) → n < day_count → count_by test (held_on ps n) ≡ cond (passes n) 1 0)
     → dates_in test ps ≡ count_by passes (range_with_len 0 day_count)
 dates_are test ps passes each =
@@ -207,7 +207,7 @@ flights_dates {V} test days one dates each none (f ∷ fs) =
 few_of : (total flights : ℕ) → total ≤ flights * 36525 → flights ≡ 270000 → total < 2 ^ 64
 few_of total flights h is = omega arith
 
-number_of_flights : length all_flights ≡ 270000
+pub number_of_flights : length all_flights ≡ 270000
 unfolding flight_count
 number_of_flights = length-map-range_with_len flight_at 0 270000
 
@@ -225,12 +225,12 @@ module _ (passes : FlightNumber → ℕ → Bool) where
       let all = sum_by-cons dates_of f fs in
       omega arith
 
-  few : sum_by dates_of all_flights < 2 ^ 64
+  pub few : sum_by dates_of all_flights < 2 ^ 64
   few = few_of (sum_by dates_of all_flights) (length all_flights) (bounded all_flights)
       number_of_flights
 
 -- a number that fits is not capped
-fits : (n total : ℕ) → n ≡ total → total < 2 ^ 64 → capped n ≡ total
+pub fits : (n total : ℕ) → n ≡ total → total < 2 ^ 64 → capped n ≡ total
 fits n total is small = omega arith
 
 -- ---- what is printed

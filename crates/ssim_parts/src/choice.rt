@@ -39,7 +39,7 @@ impl Model for Choice {
 
 impl Choice {
     /// Whether a flight is chosen.
-    pub(crate) fn has_flight(&self, flight: Flight) -> bool
+    pub fn has_flight(&self, flight: Flight) -> bool
         ensures { result ≡ chooses_flight self.now flight }
     {
         match self.flights.split_first() {
@@ -49,14 +49,14 @@ impl Choice {
     }
 
     /// Whether an itinerary is chosen.
-    pub(crate) fn has_legs(&self, legs: &[PlacedLeg]) -> bool
+    pub fn has_legs(&self, legs: &[PlacedLeg]) -> bool
         ensures { result ≡ chooses_legs self.now legs.now }
     {
         touch_one(legs, &self.stations) && have_one(legs, &self.aircraft)
     }
 
     /// Whether neither stations nor aircraft types are named, so that all itineraries are chosen.
-    pub(crate) fn has_all_legs(&self) -> bool
+    pub fn has_all_legs(&self) -> bool
         ensures { result ≡ true
             → (length self.now.stations ≡ 0) × (length self.now.aircraft ≡ 0) }
     {

@@ -97,14 +97,15 @@ fn cancel(flight: Flight, first: u16, end: u16, schedule: &mut Schedule) -> Resu
     requires { end ≤ 36525 }
     ensures { OnOk result (ChangesFlight flight (cancelled first end) schedule.old schedule.new) }
 {
-    match dates(first, end) {
+    match daily_period(first, end) {
         None => Ok(()),
         Some(period) => schedule.change(flight, &period, &Cancelled),
     }
 }
 
-// The period of all days from a first one to the one before an end.
-fn dates(first: u16, end: u16) -> Option<Period>
+/// The period of all days from a first one to the one before an end; none if the end is not after the
+/// first.
+pub fn daily_period(first: u16, end: u16) -> Option<Period>
     requires { end ≤ 36525 }
     ensures some { IfSome result (λ period. (n : ℕ) → holds period n
         ≡ (nat_le first n && nat_lt n end)) }
@@ -129,7 +130,7 @@ fn choose_legs(choice: &Choice, flight: Flight, schedule: &mut Schedule) -> Resu
     if choice.has_all_legs() {
         return Ok(());
     }
-    match dates(0, DAYS) {
+    match daily_period(0, DAYS) {
         None => Ok(()),
         Some(calendar) => schedule.change(flight, &calendar, &ChosenLegs { choice }),
     }

@@ -44,7 +44,7 @@ mod section_builder;
 mod sections;
 
 pub use choice::Choice;
-pub use chosen::choose;
+pub use chosen::{choose, daily_period};
 pub use converted::{Converted, FlightFates, convert};
 pub use fate::{Fate, LeftReason};
 pub use left_lines::{conversion_lines, unconverted_lines};

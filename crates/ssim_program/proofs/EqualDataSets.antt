@@ -37,10 +37,9 @@ use Rattle.ssim_desk.specs.Meaning.{found_by, left_by}
 use Rattle.ssim_board.specs.InOrder.{board_of}
 use Rattle.ssim_board.specs.Lines.{board_lines}
 use Rattle.ssim_board.specs.declared.board.Board.{Board as StationBoard}
-use Rattle.ssim_difference.specs.Lines.{difference_lines}
 use Rattle.ssim_outbox.specs.Comparable.{RefusesCarriers}
 use Rattle.ssim_outbox.specs.declared.fault.OutboxFault.{OutboxFault}
-use Rattle.ssim_command_line.specs.Line.{Text, Texts, Withdraw, Show, History, Board, Diff}
+use Rattle.ssim_command_line.specs.Line.{Text, Texts, Withdraw, Show, History, Board}
 use Rattle.ssim_command_line.specs.Line.{Check, Findings, Export, Page}
 use Rattle.ssim_command_line.specs.Line.{Problems as ProblemsOf, Tidy}
 use Rattle.ssim_program.specs.Acts.{Act, Print, printed_by, prints}

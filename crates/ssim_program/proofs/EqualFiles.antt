@@ -38,10 +38,9 @@ use Rattle.ssim_desk.specs.DateSteps.{steps_on}
 use Rattle.ssim_desk.specs.Desk.{days_of_desk, entry_lines}
 use Rattle.ssim_desk.specs.Meaning.{found_by, left_by}
 use Rattle.ssim_board.specs.declared.board.Board.{Board as StationBoard}
-use Rattle.ssim_difference.specs.Lines.{difference_lines}
 use Rattle.ssim_outbox.specs.Comparable.{RefusesCarriers}
 use Rattle.ssim_outbox.specs.declared.fault.OutboxFault.{OutboxFault}
-use Rattle.ssim_command_line.specs.Line.{Text, Texts, Withdraw, Show, History, Board, Diff}
+use Rattle.ssim_command_line.specs.Line.{Text, Texts, Withdraw, Show, History, Board}
 use Rattle.ssim_command_line.specs.Line.{Check, Findings, Export, Info, Page}
 use Rattle.ssim_command_line.specs.Line.{Problems as ProblemsOf, Tidy}
 use Rattle.ssim_command_line.specs.declared.board_form.BoardForm.{BoardForm}
@@ -330,39 +329,38 @@ page_of desk = do
   Gives (desk_page carrier (days_of desk.base.records) desk)
 
 -- what is made of two desks and their carrier records
-abbrev Made : Type 0
-Made = DeskSeen → DeskSeen → CarrierFields → CarrierFields → List ℕ
+abbrev pub Made : Type 1
+Made = DeskSeen → DeskSeen → CarrierFields → CarrierFields → Answer (List ℕ)
 
--- the same is made of equal ones
-abbrev IsOfDesks : Made → Type 0
+-- what is made of equal ones is alike
+abbrev pub IsOfDesks : Made → Type 0
 IsOfDesks made =
     (old first new second : DeskSeen) → SameDesk old first → SameDesk new second
     → (mine ours theirs others : CarrierFields) → mine ≡ ours → theirs ≡ others
-    → made old new mine theirs ≡ made first second ours others
+    → AreAlike Equal (made old new mine theirs) (made first second ours others)
 
 -- what is made of two timetables, from the comparison of the carrier records on
-abbrev made_between : Made → DeskSeen → DeskSeen → CarrierFields → CarrierFields → Unit {0}
+abbrev pub made_between : Made → DeskSeen → DeskSeen → CarrierFields → CarrierFields → Unit {0}
     → Answer (List ℕ)
-made_between made old new mine theirs same = Gives (made old new mine theirs)
+made_between made old new mine theirs same = made old new mine theirs
 
-abbrev between : Made → DeskSeen → DeskSeen → CarrierFields → CarrierFields → Answer (List ℕ)
+abbrev pub between : Made → DeskSeen → DeskSeen → CarrierFields → CarrierFields → Answer (List ℕ)
 between made old new mine theirs = compared mine theirs >>= made_between made old new mine theirs
 
-abbrev from_carrier : Made → DeskSeen → DeskSeen → CarrierFields → Answer (List ℕ)
+abbrev pub from_carrier : Made → DeskSeen → DeskSeen → CarrierFields → Answer (List ℕ)
 from_carrier made old new mine = carrier_of new.base.records >>= between made old new mine
 
-abbrev of_desks : Made → DeskSeen → DeskSeen → Answer (List ℕ)
+abbrev pub of_desks : Made → DeskSeen → DeskSeen → Answer (List ℕ)
 of_desks made old new = carrier_of old.base.records >>= from_carrier made old new
 
-abbrev to_new : Made → Files → Text → DeskSeen → Answer (List ℕ)
+abbrev pub to_new : Made → Files → Text → DeskSeen → Answer (List ℕ)
 to_new made files to old = timetable_in (Some files) to >>= of_desks made old
 
-abbrev differing_lines : Made
-differing_lines old new mine theirs =
-    difference_lines mine.airline (days_of_desk old) (days_of_desk new)
+abbrev changed_lines : DeskSeen → DeskSeen → CarrierFields → List ℕ
+changed_lines old new theirs = desk_page theirs (days_of_desk old) new
 
 abbrev changed : Made
-changed old new mine theirs = desk_page theirs (days_of_desk old) new
+changed old new mine theirs = Gives (changed_lines old new theirs)
 
 -- what is said of a file hangs on the base and the messages of its desk alone
 seen_lines : (k : FileKind) (carrier : CarrierFields) (desk : DeskSeen)
@@ -493,8 +491,7 @@ module _ (frames : FramesAreOne) (one_base : SameBytesSameBase) (no_two : NoTwoD
       same_too (subst
       (λ (c : CarrierFields). AreAlike Nothing (compared mine theirs) (compared c theirs)) same
       (compared_alike mine theirs)))
-      (λ x y both. gives_alike (made old new mine theirs) (made first second ours others)
-      (is old first new second one two mine ours theirs others same same_too))
+      (λ x y both. is old first new second one two mine ours theirs others same same_too)
 
   desks_alike : (made : Made) → IsOfDesks made → (old first new second : DeskSeen) → SameDesk old first
       → SameDesk new second → AreAlike Equal (of_desks made old new) (of_desks made first second)
@@ -508,7 +505,7 @@ module _ (frames : FramesAreOne) (one_base : SameBytesSameBase) (no_two : NoTwoD
       (λ theirs others. between_alike made is old first new second one two mine ours theirs others
       same))
 
-  pairs_alike : (made : Made) → IsOfDesks made → (files others : Files) (from to here there : Text)
+  pub pairs_alike : (made : Made) → IsOfDesks made → (files others : Files) (from to here there : Text)
       → IsSameFile files from others here → IsSameFile files to others there
       → AreAlike PrintTheSame (prints (timetable_in (Some files) from >>= to_new made files to))
       (prints (timetable_in (Some others) here >>= to_new made others there))
@@ -523,13 +520,8 @@ module _ (frames : FramesAreOne) (one_base : SameBytesSameBase) (no_two : NoTwoD
       (timetable_alike files others to there same_too frames one_base no_two)
       (λ new second. desks_alike made is old first new second one)))
 
-  pub diff_alike : DoesTheSameOfPairs Diff
-  diff_alike =
-      pairs_alike differing_lines
-      (λ old first new second one two mine ours theirs others same same_too. λ i. differing_lines
-      (seen (one.0 i) (one.1 i)) (seen (two.0 i) (two.1 i)) (same i) (same_too i))
-
   pub changed_page_alike : DoesTheSameOfPairs (λ from. Page (Some from))
   changed_page_alike =
-      pairs_alike changed (λ old first new second one two mine ours theirs others same same_too. λ i.
-      changed (seen (one.0 i) (one.1 i)) (seen (two.0 i) (two.1 i)) (same i) (same_too i))
+      pairs_alike changed (λ old first new second one two mine ours theirs others same same_too.
+      gives_alike (changed_lines old new theirs) (changed_lines first second others)
+      (λ i. changed_lines (seen (one.0 i) (one.1 i)) (seen (two.0 i) (two.1 i)) (same_too i)))

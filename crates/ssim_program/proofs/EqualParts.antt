@@ -139,7 +139,7 @@ module _ (airline : List ℕ) (words : ChoiceTexts) (flights : List Text) where
       (or_else_alike (each_read typed_aircraft words.aircraft) refused.Aircraft)
       (dates_alike named stations))))
 
-choice_alike : (airline other : List ℕ) (words : ChoiceTexts) (flights : List Text)
+pub choice_alike : (airline other : List ℕ) (words : ChoiceTexts) (flights : List Text)
     → airline ≡ other
     → AreAlike Equal (choice_in airline words flights) (choice_in other words flights)
 choice_alike airline other words flights same =

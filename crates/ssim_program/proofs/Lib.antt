@@ -41,6 +41,7 @@ pub mod SameReading
 pub mod EqualFiles
 pub mod EqualDataSets
 pub mod EqualParts
+pub mod EqualChanges
 pub mod CarriedFiles
 pub mod ChoiceSteps
 pub mod ChosenDates

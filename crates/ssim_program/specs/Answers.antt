@@ -16,6 +16,7 @@ use Rattle.ssim_held.specs.File.{desk_file}
 use Rattle.ssim_held.specs.declared.fault.DeskFault.TheVariants as desk_fault
 use Rattle.ssim_desk.specs.DateSteps.{steps_on}
 use Rattle.ssim_desk.specs.Desk.{days_of_desk, finding_lines, timetable_of}
+use Rattle.ssim_difference.specs.ChosenDates.{chosen_side}
 use Rattle.ssim_difference.specs.Differences as differing
 use Rattle.ssim_difference.specs.Lines.{difference_lines}
 use Rattle.ssim_outbox.specs.Comparable.{RefusesCarriers}
@@ -261,20 +262,24 @@ compared mine theirs (Ok x) =
 compared mine theirs (Err why) =
     (fault : OutboxFault) × RefusesCarriers mine theirs fault × (why ≡ refused.Publication fault)
 
--- on which dates the second desk differs from the first
-abbrev pub differences : DeskSeen → DeskSeen → Answer (List ℕ)
-differences old new = do
+-- on which of the chosen dates the second desk differs from the first: those of which the itinerary of
+-- one of the two is chosen
+abbrev pub differences : ChoiceTexts → List Text → DeskSeen → DeskSeen → Answer (List ℕ)
+differences words flights old new = do
   mine ← carrier_of old.base.records
   theirs ← carrier_of new.base.records
   same ← compared mine theirs
-  Gives (difference_lines mine.airline (days_of_desk old) (days_of_desk new))
+  choice ← choice_in mine.airline words flights
+  Gives (difference_lines mine.airline
+      (chosen_side choice (days_of_desk old) (days_of_desk new) (days_of_desk old))
+      (chosen_side choice (days_of_desk old) (days_of_desk new) (days_of_desk new)))
 
--- on which dates two timetables differ
-abbrev pub diff : Option Files → Text → Text → Answer (List ℕ)
-diff files from to = do
+-- on which of the chosen dates two timetables differ
+abbrev pub diff : Option Files → ChoiceTexts → Text → Text → List Text → Answer (List ℕ)
+diff files words from to flights = do
   old ← timetable_in files from
   new ← timetable_in files to
-  differences old new
+  differences words flights old new
 
 -- The page of a desk under the heading of the carrier record: the flights that fly on some date, the
 -- dates on which they differ from an earlier timetable, and the messages with what they found.
@@ -353,7 +358,7 @@ answers (Listing form words file flights) files = prints (list files form words 
 answers (Calendar words file flights) files = prints (calendar files words file flights)
 answers (Info file) files = prints (info files file)
 answers (Page from file) files = prints (page files from file)
-answers (Diff from to) files = prints (diff files from to)
+answers (Diff words from to flights) files = prints (diff files words from to flights)
 answers (Publish from to reference out) files = publish files from to reference out
 answers (Findings form span file flights) files =
     prints (findings files form span file flights)

@@ -134,7 +134,12 @@ pub(crate) fn make<'r, S: Store>(
         } => lines(calendar::calendar(alloc, choice, file, flights, store)),
         Request::Info { file } => lines(info::info(alloc, file, store)),
         Request::Page { from, file } => lines(page::page(alloc, *from, file, store)),
-        Request::Diff { from, to } => lines(diff::diff(alloc, from, to, store)),
+        Request::Diff {
+            choice,
+            from,
+            to,
+            flights,
+        } => lines(diff::diff(alloc, choice, from, to, flights, store)),
         Request::Findings {
             form,
             span,

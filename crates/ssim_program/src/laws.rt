@@ -116,7 +116,8 @@ pub fn equal_timetables_do_the_same()
         → DoesTheSame (λ file. Select words file flights) }
     ensures convert { (mode : ModeWord) (out : Text)
         → MakesTheSame (λ file. Convert mode file out) }
-    ensures diff { DoesTheSameOfPairs Diff }
+    ensures diff { (words : ChoiceTexts) (flights : List Text)
+        → DoesTheSameOfPairs (λ from to. Diff words from to flights) }
     ensures changed_page { DoesTheSameOfPairs (λ from. Page (Some from)) }
 {
     frames_are_one();

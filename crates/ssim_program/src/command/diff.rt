@@ -1,15 +1,18 @@
-//! The command `diff`: on which dates the timetables of two files differ.
+//! The command `diff`: on which of the chosen dates the timetables of two files differ.
 
-ghost use Rattle.std.specs.Prelude.{◌≡◌, IfErr, IfOk};
+ghost use Rattle.std.specs.Prelude.{◌≡◌, IfErr, IfOk, map};
 ghost use Rattle.ssim_held.specs.Entries.{DeskSeen};
+ghost use Rattle.ssim_command_line.specs.Line.{choice_line};
 ghost use Rattle.ssim_program.specs.Timetables.{ReadsTimetable, RefusesTimetable};
 ghost use Rattle.ssim_program.specs.internal.Diff.{HasFlights};
 ghost use Rattle.ssim_program.specs.Answers.{diff, differences};
 ghost use Rattle.ssim_program.specs.internal.Program.{Answers};
 
+use crate::command::choice::choice_in;
 use crate::refusal::Refusal;
 use crate::store::Store;
 use crate::timetable_file::{carrier_of, open_timetable};
+use ssim_command_line::ChoiceWords;
 use ssim_desk::Holdings;
 use ssim_difference::difference_lines;
 use ssim_outbox::compare;
@@ -25,21 +28,24 @@ pub(crate) struct Timetable {
     pub flights: Vec<FlightPieces>,
 }
 
-/// The dates on which the timetables of two files differ. The records of the first are freed before
-/// the second is read.
+/// The chosen dates on which the timetables of two files differ. The records of the first are freed
+/// before the second is read.
 pub(crate) fn diff<S: Store>(
     alloc: Global,
+    words: &ChoiceWords<'_>,
     from: &str,
     to: &str,
+    flights: &[&str],
     store: &mut S,
 ) -> Result<Vec<u8>, Refusal>
-    ensures answer { Answers (diff (S.files store.old) from.now to.now) result }
+    ensures answer { Answers (diff (S.files store.old) (choice_line words.now) from.now to.now
+        (map (λ t. t.now) flights.now)) result }
     ensures same { S.files store.new ≡ S.files store.old }
     ensures counted { S.failures store.new ≡ S.failures store.old }
 {
     let old = open_flights(alloc, from, store)?;
     let desk = open_timetable(alloc, to, store)?;
-    compared(alloc, &old, desk)
+    compared(alloc, words, flights, &old, desk)
 }
 
 /// The flights of the timetable that the file of this name has.
@@ -70,13 +76,22 @@ fn flights_of(desk: Holdings) -> Result<Timetable, Memory>
     Ok(Timetable { carrier, flights })
 }
 
-/// The dates on which the timetable of a desk differs from an old one.
-fn compared(alloc: Global, old: &Timetable, desk: Holdings) -> Result<Vec<u8>, Refusal>
+/// The chosen dates on which the timetable of a desk differs from an old one.
+fn compared(
+    alloc: Global,
+    words: &ChoiceWords<'_>,
+    flights: &[&str],
+    old: &Timetable,
+    desk: Holdings,
+) -> Result<Vec<u8>, Refusal>
     ensures { (before : DeskSeen) → HasFlights before old.now.carrier old.now.flights.items
-        → Answers (differences before desk) result }
+        → Answers (differences (choice_line words.now) (map (λ t. t.now) flights.now) before desk)
+        result }
 {
     let new = flights_of(desk)?;
     compare(&old.carrier, &new.carrier)?;
-    let lines = difference_lines(alloc, old.carrier.airline(), &old.flights, &new.flights)?;
+    let airline = old.carrier.airline();
+    let choice = choice_in(alloc, airline, words, flights)?;
+    let lines = difference_lines(alloc, airline, &choice, &old.flights, &new.flights)?;
     Ok(lines)
 }

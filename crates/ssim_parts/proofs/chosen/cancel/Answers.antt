@@ -14,7 +14,7 @@ returns-in-Some c =
     let end = c.args.end in
     let is = subst (λ (found : Option DayRange). IfSome found
     (λ p. (n : ℕ) → holds p n ≡ (nat_le first n && nat_lt n end))) c.in-Some.is
-    c.dates.ensures.some in
+    c.daily_period.ensures.some in
     on_ok c.change.result
     (changed_flight c.args.flight (holds c.in-Some.period) (λ legs. []) (cancelled first end)
     c.args.schedule.now c.change.new.self

@@ -20,7 +20,7 @@ returns-in-Some c =
     let choice = c.args.choice.now in
     let is = subst (λ (found : Option DayRange). IfSome found
     (λ p. (n : ℕ) → holds p n ≡ (nat_le 0 n && nat_lt n 36525))) c.in-Some.is
-    c.dates.ensures.some in
+    c.daily_period.ensures.some in
     let s = holds c.in-Some.calendar in
     on_ok c.change.result
     (changed_flight c.args.flight s (λ legs. if chooses_legs choice legs then legs else [])

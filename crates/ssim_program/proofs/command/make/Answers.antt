@@ -186,8 +186,14 @@ returns-in-Page-clause-answer g c = let old = g.S.Store.files c.args.store.now i
 pub returns-in-Diff-clause-answer : goal.returns-in-Diff-clause-answer
 returns-in-Diff-clause-answer g c = let old = g.S.Store.files c.args.store.now in
     made_of _ _ _ _ _ c.in-Diff.is
-    (lines_of g.S.Hold.Hold.file old (answer.diff old c.in-Diff.from.now c.in-Diff.to.now)
-    c.diff.result c.lines-in-Diff.result c.diff.ensures.answer c.lines-in-Diff.ensures)
+    (lines_of g.S.Hold.Hold.file old
+    (answer.diff old (choice_line c.in-Diff.choice) c.in-Diff.from.now c.in-Diff.to.now
+    (map (λ t. t.now) c.in-Diff.flights.items)) c.diff.result c.lines-in-Diff.result
+    (subst (λ (words : List (Bor (List ℕ))). Answers
+    (answer.diff old (choice_line c.in-Diff.choice) c.in-Diff.from.now c.in-Diff.to.now
+    (map (λ t. t.now) words)) c.diff.result) c.deref-in-Diff.ensures.value
+    c.diff.ensures.answer)
+    c.lines-in-Diff.ensures)
 
 pub returns-in-Findings-clause-answer : goal.returns-in-Findings-clause-answer
 returns-in-Findings-clause-answer g c = let old = g.S.Store.files c.args.store.now in

@@ -1,4 +1,5 @@
-use Rattle.ssim_program.proofs.EqualFiles.{board_alike, changed_page_alike, diff_alike}
+use Rattle.ssim_program.proofs.EqualChanges.{diff_alike}
+use Rattle.ssim_program.proofs.EqualFiles.{board_alike, changed_page_alike}
 use Rattle.ssim_program.proofs.EqualFiles.{history_alike, info_alike, page_alike, show_alike}
 use Rattle.ssim_program.proofs.EqualConversions.{convert_same}
 use Rattle.ssim_program.proofs.EqualParts.{calendar_alike, list_alike, select_alike}

@@ -1,7 +1,7 @@
 -- The period is of all days, from the first to the one before the end.
 use Rattle.std.proofs.Common.{◌∙◌, arith}
 use Rattle.ssim_parts.proofs.Booleans.{holds_all}
-use Rattle.ssim_parts.proofs.chosen.dates.Goals as goal
+use Rattle.ssim_parts.proofs.chosen.daily_period.Goals as goal
 
 pub returns-in-Ok-clause-some : goal.returns-in-Ok-clause-some
 returns-in-Ok-clause-some c = λ n.
