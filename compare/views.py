@@ -1,5 +1,5 @@
-"""`list` and `calendar` with a choice of flight dates, beside a plain list of flight dates and beside `select`; several flights of a command; and
-boards of several dates.
+"""`list`, `calendar` and `diff` with a choice of flight dates, beside a plain list of flight dates and beside `select`; several flights of a
+command; and boards of several dates.
 
 Each case has a data set or a desk, as in `parts`, and choices of its flights, dates, stations and aircraft types. Of the dates that `tidy` or
 `export` writes (flight_dates.py) each is taken or left by itself. `list`, in each of its forms, and `calendar` have to print what follows from
@@ -9,6 +9,9 @@ follows from their dates, and `show`, `history` and `calendar` what they print o
 of what did not act, has to print those lines of all findings. In a case of `boards` `board --days N`, `--departures` and `--arrivals` have to
 print what follows from the flight dates; each date what `board` prints of it alone; and departures and arrivals together each line of the
 board, in its order.
+
+A case of `changes` has two files FROM and TO, as in `days`. `diff` with a choice has to print what follows from the dates that differ and of
+which the itinerary in FROM or that in TO is chosen, each taken or left by itself. In a case of `change words` some words are invalid.
 
 A case of `spans` has a desk with some messages, whose dates the model of `carry` finds in the desk file. With a span `findings` has to count what
 `history` says of each of these dates, and `texts` has to print the messages that follow from them. `findings` to a date and from the next one
@@ -22,14 +25,16 @@ import datetime
 import re
 
 import carry
+import days
 import messages
 import parts
 import small
 from chapter7 import DAY, FILL, OPEN_END, date, dates_of
-from flight_dates import Timetable, board, calendar, listed, listed_dates, rows
+from flight_dates import Timetable, board, calendar, differing, listed, listed_dates, rows
 from room import Answer, said
 
-KINDS = ["choice", "choice", "choice", "several", "boards", "words", "spans", "spans", "span words", "info"]
+KINDS = ["choice", "choice", "choice", "several", "boards", "words", "spans", "spans", "span words", "info", "changes", "changes", "changes",
+         "change words"]
 REASONS = ["acted", "absent", "present", "leg", "station"]
 # The most dates that are looked at one by one.
 MANY = 60
@@ -40,7 +45,10 @@ FINDING_NAMES = "reference,sub,action,flight,acted,absent,present,no_leg,no_stat
 
 
 def make(rng, room, kind):
-    """Writes the file FILE, a data set or a desk."""
+    """Writes the file FILE, a data set or a desk, or the files FROM and TO."""
+    if kind == "changes":
+        days.make(rng, room, rng.choice(days.KINDS))
+        return kind
     if kind not in ("spans", "span words"):
         return parts.make(rng, room, kind)
     season, _ = room.write_base(rng, "data", small.data_set(rng))
@@ -158,6 +166,42 @@ def of_findings(room, names):
         yield f"findings --not-acted {words}", room("findings", "FILE", *words, "--not-acted"), wanted
         wanted = said([FINDING_NAMES, *map(as_row, of_flights)])
         yield f"findings --csv {words}", room("findings", "--csv", "FILE", *words), wanted
+
+
+# ---- changes
+
+def taken_of_both(old, new, chosen):
+    """The two timetables without the flight dates of which neither itinerary is chosen."""
+    both = []
+    for table in old, new:
+        left = copy.copy(table)
+        dates = {flight: {day: legs for day, legs in found.items()
+                          if any(chosen.takes(flight, day, side.flights.get(flight, {}).get(day, ())) for side in (old, new))}
+                 for flight, found in table.flights.items()}
+        left.flights = {flight: found for flight, found in dates.items() if found}
+        both.append(left)
+    return both
+
+
+def of_changes(rng, room):
+    """What is compared of two timetables and of choices of what one of them has."""
+    exports = [room.exported(name) for name in ("FROM", "TO")]
+    if None in exports:
+        room.counts["not exported"] += 1
+        return
+    old, new = map(Timetable, exports)
+    if (old.airline, old.mode) != (new.airline, new.mode):
+        fault = "41 Airline" if old.airline != new.airline else "40 TimeMode"
+        yield "diff", room("diff", "--from", "1jan99", "FROM", "TO", "Z7A", "--to", "1jan00"), Answer(1, b"", f"refused {fault} sub 0\n")
+        return
+    whole = differing(old, new)
+    yield "diff", room("diff", "FROM", "TO"), said(whole)
+    for _ in range(4):
+        chosen = parts.choice(rng, rng.choice([old, new]))
+        before, after = chosen.words(rng, old)
+        wanted = differing(*taken_of_both(old, new, chosen))
+        room.counts["all changes" if wanted == whole else "no change" if wanted == ["same"] else "some changes"] += 1
+        yield f"diff {before} {after}", room("diff", *before, "FROM", "TO", *after), said(wanted)
 
 
 # ---- spans
@@ -417,6 +461,12 @@ def compared(rng, room, kind):
         return
     if kind == "words":
         yield from parts.of_words(rng, room, *rng.choice(COMMANDS))
+        return
+    if kind == "change words":
+        yield from parts.of_words(rng, room, "diff", "FILE")
+        return
+    if kind == "changes":
+        yield from of_changes(rng, room)
         return
     whole = room.exported("FILE")
     if whole is None:
