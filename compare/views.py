@@ -11,7 +11,8 @@ print what follows from the flight dates; each date what `board` prints of it al
 board, in its order.
 
 A case of `changes` has two files FROM and TO, as in `days`. `diff` with a choice has to print what follows from the dates that differ and of
-which the itinerary in FROM or that in TO is chosen, each taken or left by itself. In a case of `change words` some words are invalid.
+which the itinerary in FROM or that in TO is chosen, each taken or left by itself; and `diff --summary` how many of them are of each kind, which
+add up, and turned round are the same but for `added` and `cancelled`. In a case of `change words` some words are invalid.
 
 A case of `spans` has a desk with some messages, whose dates the model of `carry` finds in the desk file. With a span `findings` has to count what
 `history` says of each of these dates, and `texts` has to print the messages that follow from them. `findings` to a date and from the next one
@@ -183,6 +184,46 @@ def taken_of_both(old, new, chosen):
     return both
 
 
+EQUIPMENT = [(14, 14), (73, 95), (173, 192)]
+BY_COLUMNS = {"rerouted": [(37, 39), (55, 57)], "retimed": [(40, 47), (58, 65), (193, 194)], "equipment": EQUIPMENT}
+SUMMARIES = ["added", "cancelled", *BY_COLUMNS, "other"]
+
+
+def kind_of(before, after):
+    """The kind of a change of a flight date."""
+    if not before or not after:
+        return "cancelled" if before else "added"
+    columns = {kind: [[leg.fields(fields) for leg in legs] for legs in (before, after)] for kind, fields in BY_COLUMNS.items()}
+    return next((kind for kind, (one, other) in columns.items() if one != other), "other")
+
+
+def summary(old, new):
+    """The lines of `diff --summary`."""
+    found = {kind: [] for kind in SUMMARIES}
+    for flight in {**old.flights, **new.flights}:
+        before, after = (table.flights.get(flight, {}) for table in (old, new))
+        for day in {**before, **after}:
+            pair = before.get(day, ()), after.get(day, ())
+            if pair[0] != pair[1]:
+                found[kind_of(*pair)].append(flight)
+    return [f"{kind} flights {len(set(flights))} dates {len(flights)}" for kind, flights in found.items() if flights] + differing(old, new)[-1:]
+
+
+def of_summary(room, words, old, new):
+    """What is compared of the numbers of each kind of change."""
+    answer = room("diff", "--summary", *words)
+    lines = summary(old, new)
+    for line in lines[:-1]:
+        room.counts[f"changes: {line.split()[0]}"] += 1
+    yield f"diff --summary {words}", answer, said(lines)
+    dates = [int(line.split()[-1]) for line in printed(answer) if line != "same"]
+    yield f"dates of diff --summary {words}", sum(dates[:-1]), sum(dates[-1:])
+    turned = {"added": "cancelled", "cancelled": "added"}
+    back = [" ".join([turned.get(word, word) for word in line.split()]) for line in printed(answer)]
+    there = [{"FROM": "TO", "TO": "FROM"}.get(word, word) for word in words]
+    yield f"diff --summary turned round {words}", sorted(printed(room("diff", *there, "--summary"))), sorted(back)
+
+
 def of_changes(rng, room):
     """What is compared of two timetables and of choices of what one of them has."""
     exports = [room.exported(name) for name in ("FROM", "TO")]
@@ -196,12 +237,14 @@ def of_changes(rng, room):
         return
     whole = differing(old, new)
     yield "diff", room("diff", "FROM", "TO"), said(whole)
+    yield from of_summary(room, ["FROM", "TO"], old, new)
     for _ in range(4):
         chosen = parts.choice(rng, rng.choice([old, new]))
         before, after = chosen.words(rng, old)
         wanted = differing(*taken_of_both(old, new, chosen))
         room.counts["all changes" if wanted == whole else "no change" if wanted == ["same"] else "some changes"] += 1
         yield f"diff {before} {after}", room("diff", *before, "FROM", "TO", *after), said(wanted)
+        yield from of_summary(room, [*before, "FROM", "TO", *after], *taken_of_both(old, new, chosen))
 
 
 # ---- spans

@@ -54,10 +54,10 @@ two_flights : Names (codes "ssimdesk" ∷ codes "calendar" ∷ codes "--from" �
 unfolding clap_on_literals
 two_flights = record { right = refl; name = codes "calendar"; rows = _; entered = refl; read = refl }
 
--- `diff --station KEF season.ssim fdh.desk 341`: a flight between two timetables
+-- `diff --station KEF season.ssim fdh.desk 341 --summary`: a flight between two timetables
 one_flight : Names (codes "ssimdesk" ∷ codes "diff" ∷ codes "--station" ∷ codes "KEF"
-    ∷ codes "season.ssim" ∷ codes "fdh.desk" ∷ codes "341" ∷ [])
-    (Diff (record {
+    ∷ codes "season.ssim" ∷ codes "fdh.desk" ∷ codes "341" ∷ codes "--summary" ∷ [])
+    (Diff (record { summary = true }) (record {
       from = None;
       to = None;
       stations = codes "KEF" ∷ [];

@@ -12,7 +12,8 @@ use Rattle.ssim_command_line.specs.Line.{one, one_and_several, one_and_texts, on
 use Rattle.ssim_command_line.specs.Line.{one_or_two_values, one_value, three}
 use Rattle.ssim_command_line.specs.Line.{three_values, two, two_and_texts}
 use Rattle.ssim_command_line.specs.Line.{board_form_of, board_words, formed_three}
-use Rattle.ssim_command_line.specs.Line.{choice_of, choice_words, findings_form_of, flag, form_of, is_given, optional}
+use Rattle.ssim_command_line.specs.Line.{choice_of, choice_words, diff_form_of, findings_form_of, flag, form_of}
+use Rattle.ssim_command_line.specs.Line.{is_given, optional}
 use Rattle.ssim_command_line.specs.Line.{several_texts, span_of, span_words}
 use Rattle.ssim_command_line.specs.Line.{two_and_any, two_values, values_in}
 use Rattle.ssim_command_line.specs.Line.{Board, Calendar, Check, Diff, Explain, Export, Findings, History, Listing}
@@ -270,8 +271,8 @@ calendar_row = by (codes "calendar") (one_value ++ several_texts ∷ choice_word
     (λ rows. one_and_several (Calendar (choice_of rows)))
 
 abbrev pub diff_row : Command
-diff_row = by (codes "diff") (two_values ++ any_texts ∷ choice_words)
-    (λ rows. two_and_any (Diff (choice_of rows)))
+diff_row = by (codes "diff") (two_values ++ any_texts ∷ flag (codes "summary") ∷ choice_words)
+    (λ rows. two_and_any (Diff (diff_form_of rows) (choice_of rows)))
 
 abbrev pub findings_row : Command
 findings_row = by (codes "findings")
@@ -330,7 +331,7 @@ calendar_read = some_reader calendar_row.name calendar_row.words (λ rows. Calen
 
 pub diff_read : IsReader diff_row
 unfolding clap_on_literals
-diff_read = any_reader diff_row.name diff_row.words (λ rows. Diff (choice_of rows))
+diff_read = any_reader diff_row.name diff_row.words (λ rows. Diff (diff_form_of rows) (choice_of rows))
     (λ a b. (refl, record { enter = λ t rest. refl; first = λ t u. refl; later = λ x seen t u. refl }))
 
 pub findings_read : IsReader findings_row

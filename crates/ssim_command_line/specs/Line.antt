@@ -11,6 +11,7 @@ use Rattle.ssim_command_line.specs.declared.board_form.BoardForm.{BoardForm}
 use Rattle.ssim_command_line.specs.declared.board_form.Direction.{Direction}
 use Rattle.ssim_command_line.specs.declared.board_form.Direction.TheVariants.{Departures, Arrivals}
 use Rattle.ssim_command_line.specs.declared.command_line.ChoiceWords.{ChoiceWords}
+use Rattle.ssim_command_line.specs.declared.command_line.DiffForm.{DiffForm}
 use Rattle.ssim_command_line.specs.declared.command_line.FindingsForm.{FindingsForm}
 use Rattle.ssim_command_line.specs.declared.command_line.ListForm.{ListForm}
 use Rattle.ssim_command_line.specs.declared.command_line.ModeWord.{ModeWord}
@@ -55,7 +56,7 @@ pub data Line : Type 0 where
   Calendar : (choice : ChoiceTexts) (file : Text) (flights : List Text) → Line
   Info : (file : Text) → Line
   Page : (from : Option Text) (file : Text) → Line
-  Diff : (choice : ChoiceTexts) (from to : Text) (flights : List Text) → Line
+  Diff : (form : DiffForm) (choice : ChoiceTexts) (from to : Text) (flights : List Text) → Line
   Publish : (from to reference out : Text) → Line
   Findings : (form : FindingsForm) (span : SpanTexts) (desk : Text) (flights : List Text) → Line
   Export : (desk : Text) → Line
@@ -107,8 +108,8 @@ line_of (request.Calendar choice file flights) =
     Calendar (choice_line choice) file.now (map (λ t. t.now) flights.items)
 line_of (request.Info file) = Info file.now
 line_of (request.Page from file) = Page (option_map (λ f. f.now) from) file.now
-line_of (request.Diff choice from to flights) =
-    Diff (choice_line choice) from.now to.now (map (λ t. t.now) flights.items)
+line_of (request.Diff form choice from to flights) =
+    Diff form (choice_line choice) from.now to.now (map (λ t. t.now) flights.items)
 line_of (request.Publish from to reference out) = Publish from.now to.now reference.now out.now
 line_of (request.Findings form span desk flights) =
     Findings form (span_line span) desk.now (map (λ t. t.now) flights.items)
@@ -177,6 +178,10 @@ is_given name rows = option_map_or (λ text. bytes_eq text (codes "true")) (firs
 -- which of the options of `list` are given
 abbrev pub form_of : List Row → ListForm
 form_of rows = record { csv = is_given (codes "csv") rows; dates = is_given (codes "dates") rows }
+
+-- which of the options of `diff` are given
+abbrev pub diff_form_of : List Row → DiffForm
+diff_form_of rows = record { summary = is_given (codes "summary") rows }
 
 -- which of the options of `findings` are given
 abbrev pub findings_form_of : List Row → FindingsForm
@@ -363,8 +368,8 @@ commands =
     ∷ command (codes "info") one_value (one Info)
     ∷ record {
       name = codes "diff";
-      words = two_values ++ any_texts ∷ choice_words;
-      make = λ rows. two_and_any (Diff (choice_of rows));
+      words = two_values ++ any_texts ∷ flag (codes "summary") ∷ choice_words;
+      make = λ rows. two_and_any (Diff (diff_form_of rows) (choice_of rows));
     }
     ∷ command (codes "publish") four_values (four Publish)
     ∷ command (codes "page") one_or_two_values (one_or_two Page)

@@ -3,7 +3,8 @@ ghost use Rattle.std.specs.Prelude.{◌≡◌, ◌++◌, [], IfErr, IfOk, MatchR
 ghost use Rattle.std.specs.Prelude.{option_map, unwrap_or};
 ghost use Rattle.clap.specs.Words.{all_of, app_of, found_of, first_of, rows_of};
 ghost use Rattle.ssim_command_line.specs.Line.{Line, Spells, form_of, is_given, line_from, values_in};
-ghost use Rattle.ssim_command_line.specs.Line.{choice_line, choice_of, findings_form_of, line_of};
+ghost use Rattle.ssim_command_line.specs.Line.{choice_line, choice_of, diff_form_of, findings_form_of};
+ghost use Rattle.ssim_command_line.specs.Line.{line_of};
 ghost use Rattle.ssim_command_line.specs.Line.{mode_of};
 ghost use Rattle.ssim_command_line.specs.Line.{span_line, span_of};
 ghost use Rattle.ssim_command_line.specs.Usage.{Names, line_at};
@@ -24,6 +25,13 @@ pub struct ListForm {
     pub csv: bool,
     /// Date by date.
     pub dates: bool,
+}
+
+/// How `diff` prints the changes.
+#[derive(Clone, Copy, Debug, PartialEq, Eq)]
+pub struct DiffForm {
+    /// As numbers of each kind of change.
+    pub summary: bool,
 }
 
 /// How `findings` prints the sub-messages, and which.
@@ -177,6 +185,7 @@ pub enum Request<'a> {
     /// Print on which of the chosen dates flights differ in two timetables, of desks or of data sets: all
     /// flights, or these.
     Diff {
+        form: DiffForm,
         choice: ChoiceWords<'a>,
         from: &'a str,
         to: &'a str,
@@ -412,6 +421,15 @@ fn form_of(inner: &ArgMatches<'_>) -> ListForm
     ListForm {
         csv: is_given(inner, "csv"),
         dates: is_given(inner, "dates"),
+    }
+}
+
+/// Which of the options of `diff` are given.
+fn diff_form_of(inner: &ArgMatches<'_>) -> DiffForm
+    ensures { result ≡ diff_form_of (rows_of (found_of inner.now)) }
+{
+    DiffForm {
+        summary: is_given(inner, "summary"),
     }
 }
 

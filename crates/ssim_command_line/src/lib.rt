@@ -16,5 +16,5 @@ mod word_help;
 
 pub use board_form::{BoardForm, Direction};
 pub use command_line::{
-    ChoiceWords, FindingsForm, LineFault, ListForm, ModeWord, Request, SpanWords, parse,
+    ChoiceWords, DiffForm, FindingsForm, LineFault, ListForm, ModeWord, Request, SpanWords, parse,
 };

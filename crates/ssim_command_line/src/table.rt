@@ -323,9 +323,9 @@ prints lines such as
 for: kind, airline, season, validity, mode, created and records; flights,
 stations, dates, first and last; of a desk also rows, messages and latest.
 Exit status: 0; 1 if the file is refused."
-        "diff" [First("FROM"), Second("TO"), Any("FLIGHT"), Valued("from", "DATE"), Valued("to", "DATE"),
-            Repeated("station", "STATION"), Repeated("aircraft", "TYPE")]
-            => Diff(from, to; flights; choice = choice_of)
+        "diff" [First("FROM"), Second("TO"), Any("FLIGHT"), Flag("summary"), Valued("from", "DATE"),
+            Valued("to", "DATE"), Repeated("station", "STATION"), Repeated("aircraft", "TYPE")]
+            => Diff(from, to; flights; form: diff_form_of; choice = choice_of)
         "Print on which dates two timetables differ, and how"
         "\
 Example:
@@ -344,6 +344,14 @@ Legs of one sequence that differ although their lines are equal end in ' *'.
   ssimdesk diff --from 1jul27 --station PMI season.ssim fdh.desk 341
 prints of these flights only the dates that 'list' chooses of FROM or of TO by
 the same words, with the legs of both, and the last line counts these.
+  ssimdesk diff --summary season.ssim planned.ssim
+prints no periods, but how many flights and dates have each kind of change:
+  added flights 1 dates 26
+  cancelled flights 2 dates 8
+  retimed flights 1 dates 60
+  ...
+The kinds are 'added', 'cancelled', 'rerouted', 'retimed', 'equipment' and
+'other'. Each date has the first that fits; a flight counts in each that it has.
 Exit status: 0, also if they differ; 1 if a file is refused, the airline (41) or
 the time mode (40) of TO is another one, a word is no flight (6), station (3),
 aircraft type (25) or date (1), the airline of a flight is another one (41), or

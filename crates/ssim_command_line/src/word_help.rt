@@ -25,6 +25,10 @@ const WORDS: &[(Told, &str)] = &[
     (Id("csv"), "Print CSV: a row of names, and then the rows"),
     (Id("dates"), "Print each date by itself, and no periods"),
     (Id("not-acted"), "Print only what did not act on a date"),
+    (
+        Id("summary"),
+        "Print how many changes of each kind there are",
+    ),
     (Id("days"), "Print N dates, each under a heading"),
     (Id("departures"), "Print the departures alone"),
     (Id("arrivals"), "Print the arrivals alone"),

@@ -5,3 +5,5 @@ pub mod Between
 pub mod Pieces
 pub mod Listed
 pub mod DateCounts
+pub mod KindCounts
+pub mod KindLaws

@@ -1,5 +1,6 @@
 pub mod Differences
 pub mod ChosenDates
+pub mod Kinds
 pub mod Lines
 pub mod clauses
 pub mod internal

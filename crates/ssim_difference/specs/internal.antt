@@ -4,3 +4,4 @@ pub mod Between
 pub mod Choosing
 pub mod Matched
 pub mod Counted
+pub mod KindCounts

@@ -8,6 +8,8 @@
 //! - [`date_count`]: on how many dates flights differ.
 //! - [`difference_lines`]: the chosen differences as lines, with the old and the new legs.
 //!   [`push_difference`] adds the lines of one difference.
+//! - [`ChangeKind`]: the kind of a change of a flight date. [`summary_lines`] are the numbers of the
+//!   chosen changes of each kind, as lines.
 //! - [`laws`]: each date that differs is in exactly one period of its flight, and no other date is
 //!   in any; no flight differs exactly if the timetables are equal.
 //!
@@ -19,6 +21,7 @@
 //! which a timetable was made nor how it was divided before changes them.
 #![tactic(auto)]
 
+mod change_kind;
 mod chosen;
 mod dates;
 mod difference;
@@ -26,11 +29,14 @@ mod flight_difference;
 pub mod laws;
 mod lines;
 mod piece_changes;
+mod summary;
 mod timetable_difference;
 
+pub use change_kind::ChangeKind;
 pub use dates::date_count;
 pub use difference::Difference;
 pub use flight_difference::FlightDifference;
 pub use lines::{difference_lines, push_difference};
 pub use ssim_values::Memory;
+pub use summary::summary_lines;
 pub use timetable_difference::{chosen_differences, differences};

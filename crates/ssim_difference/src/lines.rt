@@ -85,8 +85,12 @@ fn listed(
     Ok(lines)
 }
 
-// Adds the last line: `same`, or the number of flights that differ and of their dates.
-fn push_last(lines: &mut Vec<u8>, flights: &[FlightDifference], dates: u64) -> Result<(), Memory>
+/// Adds the last line: `same`, or the number of flights that differ and of their dates.
+pub(crate) fn push_last(
+    lines: &mut Vec<u8>,
+    flights: &[FlightDifference],
+    dates: u64,
+) -> Result<(), Memory>
     ensures { OnOk result (lines.new.items ≡ lines.old.items ++ last_line flights.now dates) }
 {
     let count = flights.len();

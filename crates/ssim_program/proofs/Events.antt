@@ -215,7 +215,7 @@ module _ (old new : Files) (acts done later : List Act) (split : acts ≡ done +
       looks _ old new acts done later split left (ap kept_by are)
   of_line (line.Page from file) (bytes, is, are) =
       looks _ old new acts done later split left (ap kept_by are)
-  of_line (line.Diff words from to flights) (bytes, is, are) =
+  of_line (line.Diff form words from to flights) (bytes, is, are) =
       looks _ old new acts done later split left (ap kept_by are)
   of_line (line.Publish from to reference out)
       (_, may, (one, read, (other, reads, (mail, publishes, are)))) =

@@ -18,7 +18,6 @@ use Rattle.ssim_desk.specs.DateSteps.{steps_on}
 use Rattle.ssim_desk.specs.Desk.{days_of_desk, finding_lines, timetable_of}
 use Rattle.ssim_difference.specs.ChosenDates.{chosen_side}
 use Rattle.ssim_difference.specs.Differences as differing
-use Rattle.ssim_difference.specs.Lines.{difference_lines}
 use Rattle.ssim_outbox.specs.Comparable.{RefusesCarriers}
 use Rattle.ssim_outbox.specs.Publication.{Publishes, RefusesPublication}
 use Rattle.ssim_outbox.specs.declared.fault.OutboxFault.{OutboxFault}
@@ -33,6 +32,7 @@ use Rattle.ssim_command_line.specs.Line.{Rehearse, Explain, Page, Board, Diff, P
 use Rattle.ssim_command_line.specs.Line.{Convert, Info, Select, Split}
 use Rattle.ssim_command_line.specs.declared.board_form.BoardForm.{BoardForm}
 use Rattle.ssim_command_line.specs.declared.command_line.FindingsForm.{FindingsForm}
+use Rattle.ssim_command_line.specs.declared.command_line.DiffForm.{DiffForm}
 use Rattle.ssim_command_line.specs.declared.command_line.ListForm.{ListForm}
 use Rattle.ssim_command_line.specs.declared.command_line.ModeWord.{ModeWord}
 use Rattle.ssim_program.specs.Acts.{Act, Print, Keep, prints, prints_then}
@@ -58,6 +58,7 @@ use Rattle.ssim_program.specs.print.Blocks.{blocks}
 use Rattle.ssim_program.specs.print.Board.{printed_board}
 use Rattle.ssim_program.specs.print.Calendar.{calendars}
 use Rattle.ssim_program.specs.print.Info.{info_lines}
+use Rattle.ssim_program.specs.print.Difference.{printed_difference}
 use Rattle.ssim_program.specs.print.Listing.{printed_list}
 use Rattle.ssim_program.specs.print.Page.{message_articles}
 use Rattle.ssim_program.specs.print.Shown.{findings_lines, history_on, shown_on}
@@ -264,22 +265,22 @@ compared mine theirs (Err why) =
 
 -- on which of the chosen dates the second desk differs from the first: those of which the itinerary of
 -- one of the two is chosen
-abbrev pub differences : ChoiceTexts → List Text → DeskSeen → DeskSeen → Answer (List ℕ)
-differences words flights old new = do
+abbrev pub differences : DiffForm → ChoiceTexts → List Text → DeskSeen → DeskSeen → Answer (List ℕ)
+differences form words flights old new = do
   mine ← carrier_of old.base.records
   theirs ← carrier_of new.base.records
   same ← compared mine theirs
   choice ← choice_in mine.airline words flights
-  Gives (difference_lines mine.airline
+  Gives (printed_difference form mine.airline
       (chosen_side choice (days_of_desk old) (days_of_desk new) (days_of_desk old))
       (chosen_side choice (days_of_desk old) (days_of_desk new) (days_of_desk new)))
 
--- on which of the chosen dates two timetables differ
-abbrev pub diff : Option Files → ChoiceTexts → Text → Text → List Text → Answer (List ℕ)
-diff files words from to flights = do
+-- on which of the chosen dates two timetables differ, in a form
+abbrev pub diff : Option Files → DiffForm → ChoiceTexts → Text → Text → List Text → Answer (List ℕ)
+diff files form words from to flights = do
   old ← timetable_in files from
   new ← timetable_in files to
-  differences words flights old new
+  differences form words flights old new
 
 -- The page of a desk under the heading of the carrier record: the flights that fly on some date, the
 -- dates on which they differ from an earlier timetable, and the messages with what they found.
@@ -358,7 +359,7 @@ answers (Listing form words file flights) files = prints (list files form words 
 answers (Calendar words file flights) files = prints (calendar files words file flights)
 answers (Info file) files = prints (info files file)
 answers (Page from file) files = prints (page files from file)
-answers (Diff words from to flights) files = prints (diff files words from to flights)
+answers (Diff form words from to flights) files = prints (diff files form words from to flights)
 answers (Publish from to reference out) files = publish files from to reference out
 answers (Findings form span file flights) files =
     prints (findings files form span file flights)

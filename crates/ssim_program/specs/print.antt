@@ -4,6 +4,7 @@ pub mod Refusal
 pub mod PrintedLine
 pub mod Shown
 pub mod Listing
+pub mod Difference
 pub mod Blocks
 pub mod Board
 pub mod Calendar

@@ -36,6 +36,7 @@ pub(crate) mod texts;
 pub(crate) mod tidy;
 pub(crate) mod withdraw;
 
+use crate::command::diff::DiffWords;
 use crate::explain::explain;
 use crate::made::Made;
 use crate::refusal::Refusal;
@@ -135,11 +136,19 @@ pub(crate) fn make<'r, S: Store>(
         Request::Info { file } => lines(info::info(alloc, file, store)),
         Request::Page { from, file } => lines(page::page(alloc, *from, file, store)),
         Request::Diff {
+            form,
             choice,
             from,
             to,
             flights,
-        } => lines(diff::diff(alloc, choice, from, to, flights, store)),
+        } => {
+            let words = DiffWords {
+                form: *form,
+                choice,
+                flights,
+            };
+            lines(diff::diff(alloc, &words, from, to, store))
+        }
         Request::Findings {
             form,
             span,

@@ -6,6 +6,7 @@ ghost use Rattle.ssim_command_line.specs.Line.{Convert, Export, Findings, Select
 ghost use Rattle.ssim_command_line.specs.Line.{History, Info, Listing, Page, Problems, Show, Text, Texts};
 ghost use Rattle.ssim_command_line.specs.Line.{Tidy, Withdraw};
 ghost use Rattle.ssim_command_line.specs.declared.board_form.BoardForm.{BoardForm};
+ghost use Rattle.ssim_command_line.specs.declared.command_line.DiffForm.{DiffForm};
 ghost use Rattle.ssim_command_line.specs.declared.command_line.FindingsForm.{FindingsForm};
 ghost use Rattle.ssim_command_line.specs.declared.command_line.ListForm.{ListForm};
 ghost use Rattle.ssim_command_line.specs.declared.command_line.ModeWord.{ModeWord};
@@ -116,8 +117,8 @@ pub fn equal_timetables_do_the_same()
         → DoesTheSame (λ file. Select words file flights) }
     ensures convert { (mode : ModeWord) (out : Text)
         → MakesTheSame (λ file. Convert mode file out) }
-    ensures diff { (words : ChoiceTexts) (flights : List Text)
-        → DoesTheSameOfPairs (λ from to. Diff words from to flights) }
+    ensures diff { (form : DiffForm) (words : ChoiceTexts) (flights : List Text)
+        → DoesTheSameOfPairs (λ from to. Diff form words from to flights) }
     ensures changed_page { DoesTheSameOfPairs (λ from. Page (Some from)) }
 {
     frames_are_one();

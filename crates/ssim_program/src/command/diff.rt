@@ -1,24 +1,31 @@
-//! The command `diff`: on which of the chosen dates the timetables of two files differ.
+//! The command `diff`: on which of the chosen dates the timetables of two files differ, or how many
+//! changes of each kind there are.
 
 ghost use Rattle.std.specs.Prelude.{◌≡◌, IfErr, IfOk, map};
+ghost use Rattle.ssim_values.specs.Flight.{FlightNumber};
+ghost use Rattle.ssim_base.specs.Timetable.{Days};
+ghost use Rattle.ssim_schedule.specs.FlightPieces.{divided_flights};
+ghost use Rattle.ssim_difference.specs.ChosenDates.{chosen_side};
 ghost use Rattle.ssim_held.specs.Entries.{DeskSeen};
 ghost use Rattle.ssim_command_line.specs.Line.{choice_line};
 ghost use Rattle.ssim_program.specs.Timetables.{ReadsTimetable, RefusesTimetable};
 ghost use Rattle.ssim_program.specs.internal.Diff.{HasFlights};
 ghost use Rattle.ssim_program.specs.Answers.{diff, differences};
 ghost use Rattle.ssim_program.specs.internal.Program.{Answers};
+ghost use Rattle.ssim_program.specs.print.Difference.{printed_difference};
 
 use crate::command::choice::choice_in;
 use crate::refusal::Refusal;
 use crate::store::Store;
 use crate::timetable_file::{carrier_of, open_timetable};
-use ssim_command_line::ChoiceWords;
+use ssim_command_line::{ChoiceWords, DiffForm};
 use ssim_desk::Holdings;
-use ssim_difference::difference_lines;
+use ssim_difference::{difference_lines, summary_lines};
 use ssim_outbox::compare;
+use ssim_parts::Choice;
 use ssim_records::Carrier;
 use ssim_schedule::FlightPieces;
-use ssim_values::Memory;
+use ssim_values::{Airline, Memory};
 use std::alloc::Global;
 
 /// The carrier record of a data set, and the flights of a timetable over it.
@@ -28,24 +35,32 @@ pub(crate) struct Timetable {
     pub flights: Vec<FlightPieces>,
 }
 
+/// The options of the command, and the flights that it names.
+#[derive(Clone, Copy)]
+pub(crate) struct DiffWords<'a> {
+    pub form: DiffForm,
+    pub choice: &'a ChoiceWords<'a>,
+    pub flights: &'a [&'a str],
+}
+
 /// The chosen dates on which the timetables of two files differ. The records of the first are freed
 /// before the second is read.
 pub(crate) fn diff<S: Store>(
     alloc: Global,
-    words: &ChoiceWords<'_>,
+    words: &DiffWords<'_>,
     from: &str,
     to: &str,
-    flights: &[&str],
     store: &mut S,
 ) -> Result<Vec<u8>, Refusal>
-    ensures answer { Answers (diff (S.files store.old) (choice_line words.now) from.now to.now
-        (map (λ t. t.now) flights.now)) result }
+    ensures answer { Answers (diff (S.files store.old) words.now.form
+        (choice_line words.now.choice.now) from.now to.now
+        (map (λ t. t.now) words.now.flights.now)) result }
     ensures same { S.files store.new ≡ S.files store.old }
     ensures counted { S.failures store.new ≡ S.failures store.old }
 {
     let old = open_flights(alloc, from, store)?;
     let desk = open_timetable(alloc, to, store)?;
-    compared(alloc, words, flights, &old, desk)
+    compared(alloc, words, &old, desk)
 }
 
 /// The flights of the timetable that the file of this name has.
@@ -79,19 +94,46 @@ fn flights_of(desk: Holdings) -> Result<Timetable, Memory>
 /// The chosen dates on which the timetable of a desk differs from an old one.
 fn compared(
     alloc: Global,
-    words: &ChoiceWords<'_>,
-    flights: &[&str],
+    words: &DiffWords<'_>,
     old: &Timetable,
     desk: Holdings,
 ) -> Result<Vec<u8>, Refusal>
     ensures { (before : DeskSeen) → HasFlights before old.now.carrier old.now.flights.items
-        → Answers (differences (choice_line words.now) (map (λ t. t.now) flights.now) before desk)
-        result }
+        → Answers (differences words.now.form (choice_line words.now.choice.now)
+        (map (λ t. t.now) words.now.flights.now) before desk) result }
 {
     let new = flights_of(desk)?;
     compare(&old.carrier, &new.carrier)?;
     let airline = old.carrier.airline();
-    let choice = choice_in(alloc, airline, words, flights)?;
-    let lines = difference_lines(alloc, airline, &choice, &old.flights, &new.flights)?;
+    let choice = choice_in(alloc, airline, words.choice, words.flights)?;
+    let lines = printed(
+        alloc,
+        words.form,
+        airline,
+        &choice,
+        &old.flights,
+        &new.flights,
+    )?;
     Ok(lines)
+}
+
+/// The chosen differences of two timetables as the options say.
+fn printed(
+    alloc: Global,
+    form: DiffForm,
+    airline: Airline,
+    choice: &Choice,
+    old: &[FlightPieces],
+    new: &[FlightPieces],
+) -> Result<Vec<u8>, Memory>
+    ensures { (before after : FlightNumber → Days)
+        → old.now ≡ divided_flights before → new.now ≡ divided_flights after
+        → IfOk result (λ lines. lines.items ≡ printed_difference form airline
+        (chosen_side choice.now before after before) (chosen_side choice.now before after after)) }
+{
+    if form.summary {
+        summary_lines(alloc, choice, old, new)
+    } else {
+        difference_lines(alloc, airline, choice, old, new)
+    }
 }

@@ -187,11 +187,12 @@ pub returns-in-Diff-clause-answer : goal.returns-in-Diff-clause-answer
 returns-in-Diff-clause-answer g c = let old = g.S.Store.files c.args.store.now in
     made_of _ _ _ _ _ c.in-Diff.is
     (lines_of g.S.Hold.Hold.file old
-    (answer.diff old (choice_line c.in-Diff.choice) c.in-Diff.from.now c.in-Diff.to.now
-    (map (λ t. t.now) c.in-Diff.flights.items)) c.diff.result c.lines-in-Diff.result
+    (answer.diff old c.in-Diff.form (choice_line c.in-Diff.choice) c.in-Diff.from.now
+    c.in-Diff.to.now (map (λ t. t.now) c.in-Diff.flights.items)) c.diff.result
+    c.lines-in-Diff.result
     (subst (λ (words : List (Bor (List ℕ))). Answers
-    (answer.diff old (choice_line c.in-Diff.choice) c.in-Diff.from.now c.in-Diff.to.now
-    (map (λ t. t.now) words)) c.diff.result) c.deref-in-Diff.ensures.value
+    (answer.diff old c.in-Diff.form (choice_line c.in-Diff.choice) c.in-Diff.from.now
+    c.in-Diff.to.now (map (λ t. t.now) words)) c.diff.result) c.deref-in-Diff.ensures.value
     c.diff.ensures.answer)
     c.lines-in-Diff.ensures)
 

@@ -3,8 +3,8 @@ use Rattle.std.proofs.Common.{◌≡◌, ◌∙◌, Err, List, ℕ, Ok, ap, inl,
 use Rattle.ssim_desk.specs.Desk.{days_of_desk}
 use Rattle.ssim_command_line.specs.Line.{choice_line}
 use Rattle.ssim_difference.specs.ChosenDates.{chosen_side}
-use Rattle.ssim_difference.specs.Lines.{difference_lines}
 use Rattle.ssim_program.specs.Choices.{choice_in}
+use Rattle.ssim_program.specs.print.Difference.{printed_difference}
 use Rattle.ssim_program.specs.declared.refusal.Refusal.TheVariants as refused
 use Rattle.ssim_program.proofs.command.diff.compared.Goals as goal
 
@@ -26,8 +26,8 @@ pub returns-in_err-choice : goal.returns-in_err-choice
 returns-in_err-choice c before has =
     let why = c.in_err-choice.field-0.0 in
     let is : c.from_residual-in_err-choice.result ≡ Err why = search rules in
-    let made = subst (λ (a : List ℕ). choice_in a (choice_line c.args.words.now)
-    (map (λ t. t.now) c.args.flights.now) (Err why)) c.airline-airline.ensures
+    let made = subst (λ (a : List ℕ). choice_in a (choice_line c.args.words.now.choice.now)
+    (map (λ t. t.now) c.args.words.now.flights.now) (Err why)) c.airline-airline.ensures
     c.in_err-choice.ensures in
     rw is (inr (
       c.args.old.now.carrier,
@@ -55,12 +55,12 @@ returns c before has =
           (c.in_ok-compare.ensures.airline, c.in_ok-compare.ensures.mode),
           (
             choice,
-            subst (λ (a : List ℕ). choice_in a (choice_line c.args.words.now)
-                (map (λ t. t.now) c.args.flights.now) (Ok choice)) c.airline-airline.ensures
+            subst (λ (a : List ℕ). choice_in a (choice_line c.args.words.now.choice.now)
+                (map (λ t. t.now) c.args.words.now.flights.now) (Ok choice)) c.airline-airline.ensures
                 c.in_ok-choice.ensures,
             c.in_ok-lines.ensures old new (c.deref.ensures.value ∙ has.flights_are)
                 (c.deref-2.ensures.value ∙ c.in_ok-new.ensures.flights_are)
-                ∙ ap (λ (a : List ℕ). difference_lines a (chosen_side choice old new old)
+                ∙ ap (λ (a : List ℕ). printed_difference c.args.words.now.form a (chosen_side choice old new old)
                 (chosen_side choice old new new)) c.airline-airline.ensures,
           ),
         ),

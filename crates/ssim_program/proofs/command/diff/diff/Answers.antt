@@ -6,16 +6,17 @@ use Rattle.ssim_program.specs.Timetables.{ReadsTimetable, RefusesTimetable}
 use Rattle.ssim_program.specs.internal.Program.{Answers}
 use Rattle.ssim_held.specs.Entries.{DeskSeen}
 use Rattle.ssim_command_line.specs.Line.{ChoiceTexts, Text, choice_line}
+use Rattle.ssim_command_line.specs.declared.command_line.DiffForm.{DiffForm}
 use Rattle.ssim_program.specs.declared.refusal.Refusal.{Refusal}
 use Rattle.ssim_program.proofs.command.diff.diff.Goals as goal
 
-both : {A : Type 0} (files : Option Files) (words : ChoiceTexts) (from to : Text) (flights : List Text)
+both : {A : Type 0} (files : Option Files) (form : DiffForm) (words : ChoiceTexts) (from to : Text) (flights : List Text)
     (old new : DeskSeen) (r : Result (Vec ℕ A) Refusal) → ReadsTimetable files from old
-    → ReadsTimetable files to new → Answers (differences words flights old new) r
-    → Answers (diff files words from to flights) r
-both files words from to flights old new (Ok lines) mine theirs differ =
+    → ReadsTimetable files to new → Answers (differences form words flights old new) r
+    → Answers (diff files form words from to flights) r
+both files form words from to flights old new (Ok lines) mine theirs differ =
     (old, mine, (new, theirs, differ))
-both files words from to flights old new (Err why) mine theirs differ =
+both files form words from to flights old new (Err why) mine theirs differ =
     inr (old, mine, inr (new, theirs, differ))
 
 pub returns-in_err-old-clause-answer : goal.returns-in_err-old-clause-answer
@@ -32,6 +33,7 @@ returns-in_err-desk-clause-answer g c =
 pub returns-clause-answer : goal.returns-clause-answer
 returns-clause-answer g c =
     let desk = c.in_ok-desk.desk in let read = c.in_ok-old.ensures.read in
-    both (g.S.Store.files c.args.store.now) (choice_line c.args.words.now) c.args.from.now
-    c.args.to.now (map (λ t. t.now) c.args.flights.now) read.0 desk c.compared.result read.1
+    both (g.S.Store.files c.args.store.now) c.args.words.now.form
+    (choice_line c.args.words.now.choice.now) c.args.from.now c.args.to.now
+    (map (λ t. t.now) c.args.words.now.flights.now) read.0 desk c.compared.result read.1
     (subst (λ (f : Option Files). ReadsTimetable f c.args.to.now desk) c.open_flights.ensures.same c.in_ok-desk.ensures.read) (c.compared.ensures read.0 read.2)

@@ -1,0 +1,14 @@
+-- What `diff` prints.
+use Rattle.std.specs.Prelude.{ℕ, if◌then◌else◌, List}
+use Rattle.ssim_values.specs.Flight.{FlightNumber}
+use Rattle.ssim_base.specs.Timetable.{Days}
+use Rattle.ssim_difference.specs.Kinds.{summary_lines}
+use Rattle.ssim_difference.specs.Lines.{difference_lines}
+use Rattle.ssim_command_line.specs.declared.command_line.DiffForm.{DiffForm}
+
+-- the lines of two timetables of an airline: how many changes of each kind there are, or the periods
+-- with the old and the new legs
+abbrev pub printed_difference : DiffForm → List ℕ → (FlightNumber → Days) → (FlightNumber → Days)
+    → List ℕ
+printed_difference form airline old new =
+    if form.summary then summary_lines old new else difference_lines airline old new
