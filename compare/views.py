@@ -502,18 +502,18 @@ def compared(rng, room, kind):
     if kind == "span words":
         yield from of_span_words(rng, room)
         return
-    if kind == "words":
-        yield from parts.of_words(rng, room, *rng.choice(COMMANDS))
-        return
-    if kind == "change words":
-        yield from parts.of_words(rng, room, "diff", "FILE")
-        return
     if kind == "changes":
         yield from of_changes(rng, room)
         return
     whole = room.exported("FILE")
     if whole is None:
         room.counts["not exported"] += 1
+        return
+    if kind == "words":
+        yield from parts.of_words(rng, room, *rng.choice(COMMANDS))
+        return
+    if kind == "change words":
+        yield from parts.of_words(rng, room, "diff", "FILE")
         return
     table = Timetable(whole)
     if kind == "several":
