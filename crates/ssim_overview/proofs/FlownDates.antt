@@ -137,7 +137,7 @@ pieces_ended days =
 
 -- ---- what is held on a day
 
-held_is : (days : Days) (n : ℕ) → held_on (pieces days) n ≡ alone same_itinerary [] (on_day days n)
+pub held_is : (days : Days) (n : ℕ) → held_on (pieces days) n ≡ alone same_itinerary [] (on_day days n)
 held_is days n = (pieces_law same_itinerary [] exact_itinerary days).on_each_day n
 
 -- the legs of a day pass exactly if they do alone
@@ -199,7 +199,7 @@ any_of_held test (p ∷ ps) n h = by (any_of_held test ps n) (holds p.0 n) h
 
 -- ---- legs by date
 
-on_its_day : (legs_on : ℕ → Legs) (n : ℕ) → n < 36525 → on_day (each_day legs_on) n ≡ legs_on n
+pub on_its_day : (legs_on : ℕ → Legs) (n : ℕ) → n < 36525 → on_day (each_day legs_on) n ≡ legs_on n
 on_its_day legs_on n lt = index-each_day legs_on n [] lt
 
 held_test : (test : Legs → Bool) → test [] ≡ false → (legs_on : ℕ → Legs) (n : ℕ) → n < 36525

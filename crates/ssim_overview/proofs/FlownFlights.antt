@@ -30,18 +30,18 @@ use Rattle.ssim_overview.proofs.Tests.{or_assoc, or_false, or_left}
 abbrev pub days_by : LegsOn → FlightNumber → Days
 days_by legs_on flight = each_day (legs_on flight)
 
-abbrev one : LegsOn → FlightNumber → Divided
+abbrev pub one : LegsOn → FlightNumber → Divided
 one legs_on flight = divided (days_by legs_on) flight
 
 -- the flights with pieces among some flights
-abbrev flown : LegsOn → List FlightNumber → List Divided
+abbrev pub flown : LegsOn → List FlightNumber → List Divided
 flown legs_on flights = filter shown.flies (map (divided (days_by legs_on)) flights)
 
 no_element : {A : Type 0} (xs : List A) → nat_lt 0 (length xs) ≡ false → xs ≡ []
 no_element [] e = refl
 no_element (x ∷ xs) e = let bad : 0 < length (x ∷ xs) = omega arith in absurd (grind (arith, nat_tests))
 
-no_pieces : (legs_on : LegsOn) (flight : FlightNumber) → shown.flies (one legs_on flight) ≡ false
+pub no_pieces : (legs_on : LegsOn) (flight : FlightNumber) → shown.flies (one legs_on flight) ≡ false
     → pieces (days_by legs_on flight) ≡ []
 no_pieces legs_on flight e = no_element (pieces (days_by legs_on flight)) e
 

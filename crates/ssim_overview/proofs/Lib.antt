@@ -3,3 +3,11 @@ pub mod FlownDates
 pub mod FlownEnds
 pub mod FlownFlights
 pub mod StationMarks
+pub mod SaidColumns
+pub mod SaidCut
+pub mod SaidMost
+pub mod SaidDays
+pub mod SaidSteps
+pub mod SaidHalves
+pub mod SaidStations
+pub mod SaidFlights

@@ -73,7 +73,7 @@ counted_from test (mark ∷ marks) a each =
     each (suc k) (omega arith) ∙ ap (λ (n : ℕ). test (station_at n)) next))
     ∙ sym (sum_by-cons (λ (s : List ℕ). cond (test s) 1 0) (station_at a) (map station_at (range_with_len (a + 1) (length marks))))
 
-limit_is : station_limit ≡ 17576
+pub limit_is : station_limit ≡ 17576
 unfolding station_limit
 limit_is = refl
 

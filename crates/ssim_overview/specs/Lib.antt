@@ -1,2 +1,4 @@
 pub mod Totals
+pub mod SaidRows
+pub mod examples
 pub mod internal

@@ -88,7 +88,7 @@ fn mark(marks: &mut [bool], station: Station)
 }
 
 // The rank of a station among all, in order of letters.
-fn number_of(station: Station) -> usize
+pub(crate) fn number_of(station: Station) -> usize
     ensures bound { result < 17576 }
     ensures only { (k : ℕ) → k < 17576 → nat_eq result k ≡ bytes_eq station (station_at k) }
 {
