@@ -24,7 +24,7 @@ by_date = record { right = refl; name = codes "list"; rows = _; entered = refl; 
 
 -- `receive --refused back fdh.desk fdh.desk mail`
 with_refused : Names (codes "ssimdesk" ∷ codes "receive" ∷ codes "--refused" ∷ codes "back" ∷ codes "fdh.desk" ∷ codes "fdh.desk" ∷ codes "mail" ∷ [])
-    (Receive (Some (codes "back")) (codes "fdh.desk") (codes "fdh.desk") (codes "mail" ∷ []))
+    (Receive (Some (codes "back")) false (codes "fdh.desk") (codes "fdh.desk") (codes "mail" ∷ []))
 unfolding clap_on_literals
 with_refused = record { right = refl; name = codes "receive"; rows = _; entered = refl; read = refl }
 
@@ -57,7 +57,7 @@ two_flights = record { right = refl; name = codes "calendar"; rows = _; entered 
 -- `diff --station KEF season.ssim fdh.desk 341 --summary`: a flight between two timetables
 one_flight : Names (codes "ssimdesk" ∷ codes "diff" ∷ codes "--station" ∷ codes "KEF"
     ∷ codes "season.ssim" ∷ codes "fdh.desk" ∷ codes "341" ∷ codes "--summary" ∷ [])
-    (Diff (record { summary = true }) (record {
+    (Diff (record { summary = true; status = false }) (record {
       from = None;
       to = None;
       stations = codes "KEF" ∷ [];

@@ -13,12 +13,12 @@ use Rattle.ssim_command_line.specs.Line.{one_or_two_values, one_value, three}
 use Rattle.ssim_command_line.specs.Line.{three_values, two, two_and_texts}
 use Rattle.ssim_command_line.specs.Line.{board_form_of, board_words, formed_three}
 use Rattle.ssim_command_line.specs.Line.{choice_of, choice_words, diff_form_of, findings_form_of, flag, form_of}
-use Rattle.ssim_command_line.specs.Line.{is_given, optional}
+use Rattle.ssim_command_line.specs.Line.{is_given, optional, problems_form_of}
 use Rattle.ssim_command_line.specs.Line.{several_texts, span_of, span_words}
 use Rattle.ssim_command_line.specs.Line.{two_and_any, two_values, values_in}
 use Rattle.ssim_command_line.specs.Line.{Board, Calendar, Check, Diff, Explain, Export, Findings, History, Listing}
 use Rattle.ssim_command_line.specs.Line.{Merge, Page, Problems, Publish, Receive, Rehearse, Select, Show, Start}
-use Rattle.ssim_command_line.specs.Line.{Carry, Convert, Info, Split, Take, Texts, Tidy, Withdraw, mode_and_two}
+use Rattle.ssim_command_line.specs.Line.{Carry, Convert, Info, Split, Stations, Take, Texts, Tidy, Withdraw, mode_and_two}
 use Rattle.ssim_command_line.specs.declared.board_form.BoardForm.{BoardForm}
 use Rattle.ssim_command_line.specs.declared.command_line.ModeWord.{ModeWord}
 use Rattle.ssim_command_line.specs.Usage.{bare_program, leaf}
@@ -246,12 +246,23 @@ module _ (name : Text) where
 
 -- the rows of the table with options, or any number of texts
 abbrev pub problems_row : Command
-problems_row = by (codes "problems") (one_value ++ flag (codes "csv") ∷ [])
-    (λ rows. one (Problems (is_given (codes "csv") rows)))
+problems_row = by (codes "problems")
+    (one_value ++ flag (codes "csv") ∷ flag (codes "status") ∷ [])
+    (λ rows. one (Problems (problems_form_of rows)))
+
+abbrev pub explain_row : Command
+explain_row = by (codes "explain") (one_value ++ flag (codes "status") ∷ [])
+    (λ rows. one (Explain (is_given (codes "status") rows)))
 
 abbrev pub receive_row : Command
-receive_row = by (codes "receive") (two_values ++ several_texts ∷ optional (codes "refused") ∷ [])
-    (λ rows. two_and_texts (Receive (first_of (codes "refused") rows)))
+receive_row = by (codes "receive")
+    (two_values ++ several_texts ∷ optional (codes "refused") ∷ flag (codes "status") ∷ [])
+    (λ rows. two_and_texts
+    (Receive (first_of (codes "refused") rows) (is_given (codes "status") rows)))
+
+abbrev pub merge_row : Command
+merge_row = by (codes "merge") (three_values ++ optional (codes "since") ∷ [])
+    (λ rows. three (Merge (first_of (codes "since") rows)))
 
 abbrev pub texts_row : Command
 texts_row = by (codes "texts") (one_value ++ any_texts ∷ span_words)
@@ -271,7 +282,8 @@ calendar_row = by (codes "calendar") (one_value ++ several_texts ∷ choice_word
     (λ rows. one_and_several (Calendar (choice_of rows)))
 
 abbrev pub diff_row : Command
-diff_row = by (codes "diff") (two_values ++ any_texts ∷ flag (codes "summary") ∷ choice_words)
+diff_row = by (codes "diff")
+    (two_values ++ any_texts ∷ flag (codes "summary") ∷ flag (codes "status") ∷ choice_words)
     (λ rows. two_and_any (Diff (diff_form_of rows) (choice_of rows)))
 
 abbrev pub findings_row : Command
@@ -303,12 +315,23 @@ page_read (a ∷ b ∷ d ∷ rest) e = no_line e
 pub problems_read : IsReader problems_row
 unfolding clap_on_literals
 problems_read = one_reader problems_row.name problems_row.words
-    (λ rows. Problems (is_given (codes "csv") rows)) (λ a. refl)
+    (λ rows. Problems (problems_form_of rows)) (λ a. refl)
+
+pub explain_read : IsReader explain_row
+unfolding clap_on_literals
+explain_read = one_reader explain_row.name explain_row.words
+    (λ rows. Explain (is_given (codes "status") rows)) (λ a. refl)
 
 pub receive_read : IsReader receive_row
 unfolding clap_on_literals
-receive_read = several_reader receive_row.name receive_row.words (λ rows. Receive (first_of (codes "refused") rows))
+receive_read = several_reader receive_row.name receive_row.words
+    (λ rows. Receive (first_of (codes "refused") rows) (is_given (codes "status") rows))
     (λ a b. record { enter = λ t rest. refl; first = λ t u. refl; later = λ x seen t u. refl })
+
+pub merge_read : IsReader merge_row
+unfolding clap_on_literals
+merge_read = three_reader merge_row.name merge_row.words (λ rows. Merge (first_of (codes "since") rows))
+    (λ a b d. refl)
 
 pub texts_read_by : IsReader texts_row
 unfolding clap_on_literals
@@ -369,7 +392,7 @@ readers =
     ∷ with_three (codes "start") Start
     ∷ with_several (codes "take") Take
     ∷ record { row = receive_row; reads = receive_read }
-    ∷ with_three (codes "merge") Merge
+    ∷ record { row = merge_row; reads = merge_read }
     ∷ with_three (codes "carry") Carry
     ∷ record { row = texts_row; reads = texts_read_by }
     ∷ with_several (codes "withdraw") Withdraw
@@ -379,6 +402,7 @@ readers =
     ∷ record { row = board_row; reads = board_read }
     ∷ record { row = calendar_row; reads = calendar_read }
     ∷ with_one (codes "info") Info
+    ∷ with_one (codes "stations") Stations
     ∷ record { row = diff_row; reads = diff_read }
     ∷ record { row = command (codes "publish") four_values (four Publish); reads = four_plain (codes "publish") Publish }
     ∷ record { row = page_row; reads = page_read }
@@ -391,5 +415,5 @@ readers =
     }
     ∷ with_two (codes "split") Split
     ∷ with_three (codes "rehearse") Rehearse
-    ∷ with_one (codes "explain") Explain
+    ∷ record { row = explain_row; reads = explain_read }
     ∷ []

@@ -14,6 +14,7 @@ use Rattle.ssim_command_line.specs.declared.command_line.ChoiceWords.{ChoiceWord
 use Rattle.ssim_command_line.specs.declared.command_line.DiffForm.{DiffForm}
 use Rattle.ssim_command_line.specs.declared.command_line.FindingsForm.{FindingsForm}
 use Rattle.ssim_command_line.specs.declared.command_line.ListForm.{ListForm}
+use Rattle.ssim_command_line.specs.declared.command_line.ProblemsForm.{ProblemsForm}
 use Rattle.ssim_command_line.specs.declared.command_line.ModeWord.{ModeWord}
 use Rattle.ssim_command_line.specs.declared.command_line.ModeWord.TheVariants.{Utc, Local}
 use Rattle.ssim_command_line.specs.declared.command_line.Request.{Request}
@@ -40,12 +41,12 @@ pub record SpanTexts : Type 0 where
 -- a command with its values
 pub data Line : Type 0 where
   Check : (dataset : Text) → Line
-  Problems : (csv : Bool) (dataset : Text) → Line
+  Problems : (form : ProblemsForm) (dataset : Text) → Line
   Tidy : (dataset : Text) → Line
   Start : (dataset stations out : Text) → Line
   Take : (desk out : Text) (texts : List Text) → Line
-  Receive : (refused : Option Text) (desk out : Text) (texts : List Text) → Line
-  Merge : (desk other out : Text) → Line
+  Receive : (refused : Option Text) (status : Bool) (desk out : Text) (texts : List Text) → Line
+  Merge : (since : Option Text) (desk other out : Text) → Line
   Carry : (desk other out : Text) → Line
   Texts : (span : SpanTexts) (desk : Text) (flights : List Text) → Line
   Withdraw : (desk out : Text) (references : List Text) → Line
@@ -55,6 +56,7 @@ pub data Line : Type 0 where
   Listing : (form : ListForm) (choice : ChoiceTexts) (file : Text) (flights : List Text) → Line
   Calendar : (choice : ChoiceTexts) (file : Text) (flights : List Text) → Line
   Info : (file : Text) → Line
+  Stations : (file : Text) → Line
   Page : (from : Option Text) (file : Text) → Line
   Diff : (form : DiffForm) (choice : ChoiceTexts) (from to : Text) (flights : List Text) → Line
   Publish : (from to reference out : Text) → Line
@@ -64,7 +66,7 @@ pub data Line : Type 0 where
   Convert : (mode : ModeWord) (file out : Text) → Line
   Split : (dataset prefix : Text) → Line
   Rehearse : (dataset stations script : Text) → Line
-  Explain : (word : Text) → Line
+  Explain : (status : Bool) (word : Text) → Line
 
 -- a choice as its texts
 abbrev pub choice_line : ChoiceWords → ChoiceTexts
@@ -85,13 +87,14 @@ span_line span = record {
 -- the command line of a request
 abbrev pub line_of : Request → Line
 line_of (request.Check dataset) = Check dataset.now
-line_of (request.Problems csv dataset) = Problems csv dataset.now
+line_of (request.Problems form dataset) = Problems form dataset.now
 line_of (request.Tidy dataset) = Tidy dataset.now
 line_of (request.Start dataset stations out) = Start dataset.now stations.now out.now
 line_of (request.Take desk out texts) = Take desk.now out.now (map (λ t. t.now) texts.items)
-line_of (request.Receive refused desk out texts) =
-    Receive (option_map (λ r. r.now) refused) desk.now out.now (map (λ t. t.now) texts.items)
-line_of (request.Merge desk other out) = Merge desk.now other.now out.now
+line_of (request.Receive refused status desk out texts) =
+    Receive (option_map (λ r. r.now) refused) status desk.now out.now (map (λ t. t.now) texts.items)
+line_of (request.Merge since desk other out) =
+    Merge (option_map (λ s. s.now) since) desk.now other.now out.now
 line_of (request.Carry desk other out) = Carry desk.now other.now out.now
 line_of (request.Texts span desk flights) =
     Texts (span_line span) desk.now (map (λ t. t.now) flights.items)
@@ -107,6 +110,7 @@ line_of (request.List form choice file flights) =
 line_of (request.Calendar choice file flights) =
     Calendar (choice_line choice) file.now (map (λ t. t.now) flights.items)
 line_of (request.Info file) = Info file.now
+line_of (request.Stations file) = Stations file.now
 line_of (request.Page from file) = Page (option_map (λ f. f.now) from) file.now
 line_of (request.Diff form choice from to flights) =
     Diff form (choice_line choice) from.now to.now (map (λ t. t.now) flights.items)
@@ -119,7 +123,7 @@ line_of (request.Select choice file flights) =
 line_of (request.Convert mode file out) = Convert mode file.now out.now
 line_of (request.Split dataset prefix) = Split dataset.now prefix.now
 line_of (request.Rehearse dataset stations script) = Rehearse dataset.now stations.now script.now
-line_of (request.Explain word) = Explain word.now
+line_of (request.Explain status word) = Explain status word.now
 
 -- ---- the words of a command, by their ids
 
@@ -181,7 +185,13 @@ form_of rows = record { csv = is_given (codes "csv") rows; dates = is_given (cod
 
 -- which of the options of `diff` are given
 abbrev pub diff_form_of : List Row → DiffForm
-diff_form_of rows = record { summary = is_given (codes "summary") rows }
+diff_form_of rows =
+    record { summary = is_given (codes "summary") rows; status = is_given (codes "status") rows }
+
+-- which of the options of `problems` are given
+abbrev pub problems_form_of : List Row → ProblemsForm
+problems_form_of rows =
+    record { csv = is_given (codes "csv") rows; status = is_given (codes "status") rows }
 
 -- which of the options of `findings` are given
 abbrev pub findings_form_of : List Row → FindingsForm
@@ -329,18 +339,23 @@ commands =
     command (codes "check") one_value (one Check)
     ∷ record {
       name = codes "problems";
-      words = one_value ++ flag (codes "csv") ∷ [];
-      make = λ rows. one (Problems (is_given (codes "csv") rows));
+      words = one_value ++ flag (codes "csv") ∷ flag (codes "status") ∷ [];
+      make = λ rows. one (Problems (problems_form_of rows));
     }
     ∷ command (codes "tidy") one_value (one Tidy)
     ∷ command (codes "start") three_values (three Start)
     ∷ command (codes "take") (two_values ++ several_texts ∷ []) (two_and_texts Take)
     ∷ record {
       name = codes "receive";
-      words = two_values ++ several_texts ∷ optional (codes "refused") ∷ [];
-      make = λ rows. two_and_texts (Receive (first_of (codes "refused") rows));
+      words = two_values ++ several_texts ∷ optional (codes "refused") ∷ flag (codes "status") ∷ [];
+      make = λ rows. two_and_texts
+          (Receive (first_of (codes "refused") rows) (is_given (codes "status") rows));
     }
-    ∷ command (codes "merge") three_values (three Merge)
+    ∷ record {
+      name = codes "merge";
+      words = three_values ++ optional (codes "since") ∷ [];
+      make = λ rows. three (Merge (first_of (codes "since") rows));
+    }
     ∷ command (codes "carry") three_values (three Carry)
     ∷ record {
       name = codes "texts";
@@ -366,9 +381,10 @@ commands =
       make = λ rows. one_and_several (Calendar (choice_of rows));
     }
     ∷ command (codes "info") one_value (one Info)
+    ∷ command (codes "stations") one_value (one Stations)
     ∷ record {
       name = codes "diff";
-      words = two_values ++ any_texts ∷ flag (codes "summary") ∷ choice_words;
+      words = two_values ++ any_texts ∷ flag (codes "summary") ∷ flag (codes "status") ∷ choice_words;
       make = λ rows. two_and_any (Diff (diff_form_of rows) (choice_of rows));
     }
     ∷ command (codes "publish") four_values (four Publish)
@@ -387,7 +403,11 @@ commands =
     ∷ command (codes "convert") three_values (mode_and_two Convert)
     ∷ command (codes "split") two_values (two Split)
     ∷ command (codes "rehearse") three_values (three Rehearse)
-    ∷ command (codes "explain") one_value (one Explain)
+    ∷ record {
+      name = codes "explain";
+      words = one_value ++ flag (codes "status") ∷ [];
+      make = λ rows. one (Explain (is_given (codes "status") rows));
+    }
     ∷ []
 
 -- the line of the first of the commands that has the name, if the values make one

@@ -5,7 +5,7 @@ ghost use Rattle.clap.specs.Words.{all_of, app_of, found_of, first_of, rows_of};
 ghost use Rattle.ssim_command_line.specs.Line.{Line, Spells, form_of, is_given, line_from, values_in};
 ghost use Rattle.ssim_command_line.specs.Line.{choice_line, choice_of, diff_form_of, findings_form_of};
 ghost use Rattle.ssim_command_line.specs.Line.{line_of};
-ghost use Rattle.ssim_command_line.specs.Line.{mode_of};
+ghost use Rattle.ssim_command_line.specs.Line.{mode_of, problems_form_of};
 ghost use Rattle.ssim_command_line.specs.Line.{span_line, span_of};
 ghost use Rattle.ssim_command_line.specs.Usage.{Names, line_at};
 ghost use Rattle.ssim_command_line.specs.clauses.Usage.{IsFaultOf};
@@ -32,6 +32,17 @@ pub struct ListForm {
 pub struct DiffForm {
     /// As numbers of each kind of change.
     pub summary: bool,
+    /// With a status that says whether there are changes.
+    pub status: bool,
+}
+
+/// How `problems` prints the invalid records.
+#[derive(Clone, Copy, Debug, PartialEq, Eq)]
+pub struct ProblemsForm {
+    /// As CSV.
+    pub csv: bool,
+    /// With a status that says whether there are any.
+    pub status: bool,
 }
 
 /// How `findings` prints the sub-messages, and which.
@@ -75,7 +86,7 @@ pub struct SpanWords<'a> {
 }
 
 /// A command with its values. Those named `dataset`, `stations`, `desk`, `other`, `file`, `from`,
-/// `to`, `script`, `out`, `refused` and `texts` are names of files.
+/// `to`, `script`, `out`, `refused`, `since` and `texts` are names of files.
 #[derive(Drop)]
 pub enum Request<'a> {
     /// Print the notes on a data set and a summary.
@@ -84,7 +95,7 @@ pub enum Request<'a> {
     },
     /// Print every invalid record of a data set.
     Problems {
-        csv: bool,
+        form: ProblemsForm,
         dataset: &'a str,
     },
     /// Export a data set.
@@ -107,12 +118,15 @@ pub enum Request<'a> {
     /// is named, and write the desk file.
     Receive {
         refused: Option<&'a str>,
+        status: bool,
         desk: &'a str,
         out: &'a str,
         texts: Vec<&'a str>,
     },
-    /// Merge two desks, and write the desk file.
+    /// Merge two desks, and write the desk file; without what one of them has withdrawn since an older
+    /// one, if that is named.
     Merge {
+        since: Option<&'a str>,
         desk: &'a str,
         other: &'a str,
         out: &'a str,
@@ -176,6 +190,10 @@ pub enum Request<'a> {
     Info {
         file: &'a str,
     },
+    /// Print the station table that the legs of a desk or a data set say.
+    Stations {
+        file: &'a str,
+    },
     /// Print the timetable of a desk or a data set as a page of HTML, with its changes from another
     /// timetable, if one is named.
     Page {
@@ -235,6 +253,7 @@ pub enum Request<'a> {
     },
     /// Explain the refusals of a number, or what is invalid in a file.
     Explain {
+        status: bool,
         word: &'a str,
     },
 }
@@ -407,6 +426,21 @@ fn refused_of<'a>(inner: &ArgMatches<'a>) -> Option<&'a str>
     option_at(inner, "refused")
 }
 
+/// Whether the status is to say that something was found.
+fn status_of(inner: &ArgMatches<'_>) -> bool
+    ensures { result ≡ is_given (codes "status") (rows_of (found_of inner.now)) }
+{
+    is_given(inner, "status")
+}
+
+/// The older desk from which both desks came, if one is named.
+fn since_of<'a>(inner: &ArgMatches<'a>) -> Option<&'a str>
+    ensures { option_map (λ s. s.now) result
+        ≡ first_of (codes "since") (rows_of (found_of inner.now)) }
+{
+    option_at(inner, "since")
+}
+
 /// Whether an option without a value is given.
 pub(crate) fn is_given(inner: &ArgMatches<'_>, name: &str) -> bool
     ensures { result ≡ is_given name.now (rows_of (found_of inner.now)) }
@@ -430,6 +464,7 @@ fn diff_form_of(inner: &ArgMatches<'_>) -> DiffForm
 {
     DiffForm {
         summary: is_given(inner, "summary"),
+        status: is_given(inner, "status"),
     }
 }
 
@@ -443,11 +478,14 @@ fn findings_form_of(inner: &ArgMatches<'_>) -> FindingsForm
     }
 }
 
-/// Whether rows of CSV are printed.
-fn csv_of(inner: &ArgMatches<'_>) -> bool
-    ensures { result ≡ is_given (codes "csv") (rows_of (found_of inner.now)) }
+/// Which of the options of `problems` are given.
+fn problems_form_of(inner: &ArgMatches<'_>) -> ProblemsForm
+    ensures { result ≡ problems_form_of (rows_of (found_of inner.now)) }
 {
-    is_given(inner, "csv")
+    ProblemsForm {
+        csv: is_given(inner, "csv"),
+        status: is_given(inner, "status"),
+    }
 }
 
 /// The span of dates that the options give.

@@ -25,6 +25,7 @@ pub(crate) enum CommandName {
     Board,
     Calendar,
     Info,
+    Stations,
     Diff,
     Publish,
     Page,

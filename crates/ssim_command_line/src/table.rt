@@ -57,12 +57,13 @@ The commands by what they are for:
   each day:   receive, take, board, show, list, calendar, page, diff, history
   a desk:     start, texts, findings, withdraw, merge, carry, export, publish
   a data set: check, problems, tidy, select, convert, split
-  also:       info, explain, rehearse
+  also:       info, stations, explain, rehearse
 
 For each file that is read, - is standard input.
 Exit status: 0 if the command was done; 1 if it was refused, with a line
 'refused', the number, the name and the place on standard error ('ssimdesk
-explain NUMBER' says more); 2 if the words are no command.
+explain NUMBER' says more); 2 if the words are no command; 3 if the command was
+done with --status and found something.
 'ssimdesk COMMAND --help' says more of a command.";
 
 /// The table of the commands, in the order of help. A row has the command's name, its words, the
@@ -83,7 +84,8 @@ Example:
 prints, if nothing is wrong, the number of records, of flights and of notes:
   ok records 75 flights 41 notes 0
 Exit status: 0, also with notes; 1 if the data set is refused or cannot be read."
-        "problems" [First("DATASET"), Flag("csv")] => Problems(dataset; csv: csv_of)
+        "problems" [First("DATASET"), Flag("csv"), Flag("status")]
+            => Problems(dataset; form: problems_form_of)
         "Read a data set, and print every invalid record, not only the first"
         "\
 Example:
@@ -95,7 +97,8 @@ were not there, and then the number of records and of problems:
   records 75 problems 2
 After an invalid header or carrier record, each record is checked by its own
 columns only. With --csv it prints a row for each problem.
-Exit status: 0, also with problems; 1 if the data set cannot be read."
+Exit status: 0, also with problems, but then 3 with --status; 1 if the data set
+cannot be read."
         "tidy" [First("DATASET")] => Tidy(dataset)
         "Print a data set with its periods divided anew, in canonical form"
         "\
@@ -129,8 +132,9 @@ was held:
 Exit status: 0; 1 if the desk file or a text is refused, a file cannot be read
 or written, another command holds OUT (92), or OUT is a file of another kind
 (93)."
-        "receive" [First("DESK"), Second("OUT"), Several("TEXT"), Valued("refused", "FILE")]
-            => Receive(desk, out; texts+; refused: refused_of)
+        "receive" [First("DESK"), Second("OUT"), Several("TEXT"), Valued("refused", "FILE"),
+            Flag("status")]
+            => Receive(desk, out; texts+; refused: refused_of; status: status_of)
         "Take all valid texts of mailbox files at a desk"
         "\
 OUT may be the file DESK. A TEXT may have any number of texts, with their
@@ -142,14 +146,17 @@ or its refusal, and the number of each:
   mail.txt:2 taken SSM 16MAR27 00003 001 MUCOPZ7
   mail.txt:11 refused 24 BadPeriod line 17
   taken 1 repeated 0 refused 1
-Exit status: 0, also if texts were refused; 1 if the desk file is refused or
-cannot be read, a file cannot be written, another command holds it (92), OUT is
-a file of another kind, or the file for refused texts is not empty or is one of
-the others (93)."
-        "merge" [First("DESK"), Second("OTHER"), Third("OUT")] => Merge(desk, other, out)
+Exit status: 0, also if texts were refused, but then 3 with --status; 1 if the
+desk file is refused or cannot be read, a file cannot be written, another
+command holds it (92), OUT is a file of another kind, or the file for refused
+texts is not empty or is one of the others (93)."
+        "merge" [First("DESK"), Second("OTHER"), Third("OUT"), Valued("since", "OLD")]
+            => Merge(desk, other, out; since: since_of)
         "Write the desk file of a desk that holds the messages of two"
         "\
-Both desks began from the same data set and station table.
+Both desks began from the same data set and station table. With --since OLD, the
+desk file from which both came, a message that OLD holds and one of the two no
+longer holds is left out: it was withdrawn there. OLD may be empty.
 Example:
   ssimdesk merge fdh.desk ham.desk both.desk
 writes the file 'both.desk' and prints the number of messages that it holds:
@@ -323,8 +330,16 @@ prints lines such as
 for: kind, airline, season, validity, mode, created and records; flights,
 stations, dates, first and last; of a desk also rows, messages and latest.
 Exit status: 0; 1 if the file is refused."
-        "diff" [First("FROM"), Second("TO"), Any("FLIGHT"), Flag("summary"), Valued("from", "DATE"),
-            Valued("to", "DATE"), Repeated("station", "STATION"), Repeated("aircraft", "TYPE")]
+        "stations" [First("FILE")] => Stations(file)
+        "Print the station table that the legs of a desk or a data set say"
+        "\
+Example:
+  ssimdesk stations season.ssim > mine.txt
+  ssimdesk start season.ssim mine.txt fdh.desk
+Exit status: 0; 1 if the file is refused."
+        "diff" [First("FROM"), Second("TO"), Any("FLIGHT"), Flag("summary"), Flag("status"),
+            Valued("from", "DATE"), Valued("to", "DATE"), Repeated("station", "STATION"),
+            Repeated("aircraft", "TYPE")]
             => Diff(from, to; flights; form: diff_form_of; choice = choice_of)
         "Print on which dates two timetables differ, and how"
         "\
@@ -352,10 +367,10 @@ prints no periods, but how many flights and dates have each kind of change:
   ...
 The kinds are 'added', 'cancelled', 'rerouted', 'retimed', 'equipment' and
 'other'. Each date has the first that fits; a flight counts in each that it has.
-Exit status: 0, also if they differ; 1 if a file is refused, the airline (41) or
-the time mode (40) of TO is another one, a word is no flight (6), station (3),
-aircraft type (25) or date (1), the airline of a flight is another one (41), or
---from is after --to (43)."
+Exit status: 0, also if they differ, but then 3 with --status; 1 if a file is
+refused, the airline (41) or the time mode (40) of TO is another one, a word is
+no flight (6), station (3), aircraft type (25) or date (1), the airline of a
+flight is another one (41), or --from is after --to (43)."
         "publish" [First("FROM"), Second("TO"), Third("REFERENCE"), Fourth("OUT")]
             => Publish(from, to, reference, out)
         "Write the SSM texts that lead one timetable to another"
@@ -490,7 +505,7 @@ same:
   same
 Exit status: 0, also if the desks differ or a step is refused; 1 if the data
 set, the table or the script (63) is refused, or a file cannot be read."
-        "explain" [First("WORD")] => Explain(word)
+        "explain" [First("WORD"), Flag("status")] => Explain(word; status: status_of)
         "Print what a refusal means, or what is invalid in a file"
         "\
 Example:
@@ -505,8 +520,8 @@ prints the refusal of the file and the line, or 'valid' and what it is. A data
 set begins with a digit, a desk file with SSIMDESK, a script with DESKS, a text
 with a line of one part; any other file is a station table. Of a file of another
 program, such as gzip, it prints what to do.
-Exit status: 0, also if the file is invalid or no refusal has the number; 1 if
-the file cannot be read."
+Exit status: 0, also if no refusal has the number; with --status 3 if the file
+is invalid, or a text of a mailbox is; 1 if the file cannot be read."
         }
     };
 }

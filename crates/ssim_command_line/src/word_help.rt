@@ -29,6 +29,7 @@ const WORDS: &[(Told, &str)] = &[
         Id("summary"),
         "Print how many changes of each kind there are",
     ),
+    (Id("status"), "End with exit status 3 if something is found"),
     (Id("days"), "Print N dates, each under a heading"),
     (Id("departures"), "Print the departures alone"),
     (Id("arrivals"), "Print the arrivals alone"),
@@ -36,6 +37,10 @@ const WORDS: &[(Told, &str)] = &[
     (Id("to"), "The last date of origin"),
     (Id("station"), "A station of a leg, such as ZRH"),
     (Id("aircraft"), "An aircraft type of a leg, such as 320"),
+    (
+        Id("since"),
+        "An older desk file, from which both came; it may be empty",
+    ),
     (
         Id("refused"),
         "A new or empty file, in which to keep the refused texts",

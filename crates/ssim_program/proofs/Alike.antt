@@ -1,8 +1,9 @@
 -- Two answers are alike if their steps are: the first steps, and then the next ones of values that are
 -- the same.
 use Rattle.std.proofs.Common.{◌≡◌, ◌∙◌, inl, inr, List, [], ◌∷◌, ◌++◌, ℕ, Option, Some, None, Ok, Err}
+use Rattle.std.proofs.Common.{Bool, true, false, ◌&&◌}
 use Rattle.std.proofs.Common.{sym, ap, ap₂, subst, refl}
-use Rattle.ssim_program.specs.Acts.{Act, Print, printed_by, prints}
+use Rattle.ssim_program.specs.Acts.{Act, Print, found_then, printed_by, prints, reports}
 use Rattle.ssim_program.specs.Answer.{Answer, Finds, Gives, OneOr, OrElse, Require, ◌>>=◌}
 use Rattle.ssim_program.specs.EqualFiles.{AreAlike, AreOneRefusal, PrintTheSame}
 use Rattle.ssim_program.specs.print.Refusal.{IsMemory}
@@ -93,6 +94,24 @@ require_alike P refusal = record {
   refusals = λ why that p q. inr (inr (inl (p.1 ∙ sym q.1)));
   first = λ x that p q. absurd (q.0 p);
   second = λ why y p q. absurd (p.0 q);
+}
+
+-- to say that something was found prints nothing
+printed_too : (found : Bool) (acts : List Act) → printed_by (found_then found acts) ≡ printed_by acts
+printed_too true acts = refl
+printed_too false acts = refl
+
+-- equal bytes are printed of what was found
+pub reports_alike : (asked : Bool) (one other : Answer (List ℕ × Bool)) → AreAlike Equal one other
+    → AreAlike PrintTheSame (reports asked one) (reports asked other)
+reports_alike asked one other h = record {
+  values = λ acts again (made, is, all) (more, are, all_too).
+      ap printed_by all ∙ (printed_too (asked && made.1) (Print made.0 ∷ [])
+      ∙ (ap (λ (m : List ℕ × Bool). m.0 ++ []) (h.values made more is are)
+      ∙ sym (ap printed_by all_too ∙ printed_too (asked && more.1) (Print more.0 ∷ []))));
+  refusals = h.refusals;
+  first = λ acts that (made, is, all) q. h.first made that is q;
+  second = λ why acts p (made, is, all). h.second why made p is;
 }
 
 -- equal bytes are printed

@@ -19,13 +19,14 @@ use Rattle.ssim_desk.specs.Desk.{take_answer}
 use Rattle.ssim_desk.specs.Steps.{RefusesDesk, RefusesText}
 use Rattle.ssim_command_line.specs.Line.{Text}
 use Rattle.ssim_program.specs.Acts.{Act, Acts, Print, Keep, Stop}
-use Rattle.ssim_program.specs.Answers.{merge, take, take_each}
+use Rattle.ssim_program.specs.Answers.{merge, merge_since, take, take_each}
 use Rattle.ssim_program.specs.Carrying.{IsFirstConflict}
 use Rattle.ssim_program.specs.Conflicts.{CarryMeetsTwo, EndsWith, HasTwo, MergeMeetsTwo, TakeMeetsTwo}
-use Rattle.ssim_program.specs.Conflicts.{conflict}
+use Rattle.ssim_program.specs.Conflicts.{MergeSinceMeetsTwo, conflict}
 use Rattle.ssim_program.specs.Desks.{desk_in, text_taken}
 use Rattle.ssim_program.specs.Files.{Files}
 use Rattle.ssim_program.specs.Made.{RefusesLoad}
+use Rattle.ssim_program.specs.MergingSince.{merged_since, older_in}
 use Rattle.ssim_program.specs.Offices.{IsSaid}
 use Rattle.ssim_program.specs.Places.{place_in}
 use Rattle.ssim_program.specs.print.Refusal.{IsMemory, IsOfFile, refusal_number, refusal_text}
@@ -219,6 +220,57 @@ merge_meets_two files mine theirs out r
     (one, other, read, reads, (c.one, c.other, c.apart, inl c.in_one, inr c.in_other))
 merge_meets_two files mine theirs out r
     (inr (_, may, inr (one, read, inr (other, reads, inr (after, merges, memory))))) =
+    absurd (no_memory r memory)
+
+-- an older desk is not refused for a conflict
+opened_older : (files : Option Files) (name : Text) (r : Reference)
+    → older_in files name (Err (conflict r)) → ⊥
+opened_older files name r (inl not_read) = opened files name r (inl not_read)
+opened_older files name r (inr (bytes, has, refuses)) = opened files name r (inr (bytes, has, refuses.1))
+
+not_over : (r : Reference) → conflict r ≡ refused.Desk desk_fault.OtherBase → ⊥
+not_over r e = absurd cc
+
+pub merge_since_meets_two : MergeSinceMeetsTwo
+merge_since_meets_two files since mine theirs out r (inl not_held) =
+    absurd (placed (Some files) out kind.DeskFile r not_held)
+merge_since_meets_two files since mine theirs out r (inr (_, may, inl not_read)) =
+    absurd (opened_older (Some files) since r not_read)
+merge_since_meets_two files since mine theirs out r
+    (inr (_, may, inr (old, older, inl not_read))) =
+    absurd (opened (Some files) mine r not_read)
+merge_since_meets_two files since mine theirs out r
+    (inr (_, may, inr (old, older, inr (one, read, inl not_read)))) =
+    absurd (opened (Some files) theirs r not_read)
+merge_since_meets_two files since mine theirs out r
+    (inr (_, may, inr (old, older, inr (one, read, inr (other, reads, inl (apart, is)))))) =
+    absurd (not_over r is)
+merge_since_meets_two files since mine theirs out r
+    (inr (_, may, inr (old, older, inr (one, read, inr (other, reads, inr (_, over, inl merges)))))) =
+    (one, other, read, reads, by merges)
+  where
+    by : merged_since old one other (Err (conflict r))
+        → HasTwo (λ m. Holds (state_of one) r m ⊎ Holds (state_of other) r m)
+    by (inl memory) = absurd (no_memory r memory)
+    by (inr (left, stays, inl memory)) = absurd (no_memory r memory)
+    by (inr (left, stays, inr (brought, comes, (fault, refuses, is)))) =
+        let c = (subst (RefusesDesk (state_of left) (state_of brought))
+        (same_fault (desk_fault.Conflict r) fault is) refuses).1.differ in (
+          c.one,
+          c.other,
+          c.apart,
+          inl ((stays.holds r c.one).0 c.in_one).0,
+          inr ((comes.holds r c.other).0 c.in_other).0,
+        )
+merge_since_meets_two files since mine theirs out r (inr (
+  _,
+  may,
+  inr (
+    old,
+    older,
+    inr (one, read, inr (other, reads, inr (_, over, inr (after, merges, memory)))),
+  ),
+)) =
     absurd (no_memory r memory)
 
 pub carry_meets_two : CarryMeetsTwo

@@ -1,6 +1,6 @@
 -- What commands print of equal data sets.
 use Rattle.std.proofs.Common.{◌≡◌, ◌∙◌, ◌⊎◌, inl, inr, ℕ, Bool, true, List, [], ◌∷◌, ◌++◌, Option, Some}
-use Rattle.std.proofs.Common.{None, Ok, Err, length, refl, sym, ap, ap₂, subst}
+use Rattle.std.proofs.Common.{None, Ok, Err, length, nat_lt, refl, sym, ap, ap₂, subst}
 use Rattle.std.specs.Prelude.{All, codes, if◌then◌else◌}
 use Rattle.std.specs.List.{flat_map}
 use Rattle.ssim_values.specs.Flight.{FlightNumber}
@@ -42,6 +42,7 @@ use Rattle.ssim_outbox.specs.declared.fault.OutboxFault.{OutboxFault}
 use Rattle.ssim_command_line.specs.Line.{Text, Texts, Withdraw, Show, History, Board}
 use Rattle.ssim_command_line.specs.Line.{Check, Findings, Export, Page}
 use Rattle.ssim_command_line.specs.Line.{Problems as ProblemsOf, Tidy}
+use Rattle.ssim_command_line.specs.declared.command_line.ProblemsForm.{ProblemsForm}
 use Rattle.ssim_program.specs.Acts.{Act, Print, printed_by, prints}
 use Rattle.ssim_program.specs.Answer.{Answer, Finds, Gives, OneOr, OrElse, Require, ◌>>=◌}
 use Rattle.ssim_program.specs.Answers.{compared, desk_page}
@@ -50,7 +51,7 @@ use Rattle.ssim_program.specs.EqualFiles.{AreAlike, AreOneRefusal, DoesTheSame, 
 use Rattle.ssim_program.specs.EqualFiles.{PrintTheSame, PrintsTheSame}
 use Rattle.ssim_program.specs.Exports.{HasNoExport, RefusesExport, export_in}
 use Rattle.ssim_program.specs.Files.{Files}
-use Rattle.ssim_program.specs.Made.{AreLinesOn, IsExport, data_set_in, problem_line, problem_lines}
+use Rattle.ssim_program.specs.Made.{AreLinesOn, IsExport, data_set_in, has_problem, problem_line, problem_lines}
 use Rattle.ssim_program.specs.Made.{problem_row, problem_rows}
 use Rattle.ssim_program.specs.Made.{problems_in, summary_lines}
 use Rattle.ssim_program.specs.Messages.{IsOf, message_texts, messages_on}
@@ -65,7 +66,7 @@ use Rattle.ssim_program.specs.declared.refusal.Refusal.{Refusal}
 use Rattle.ssim_program.specs.declared.refusal.Refusal.TheVariants as refused
 use Rattle.ssim_program.proofs.Again.{one_export, one_frame}
 use Rattle.ssim_program.proofs.Alike.{Equal, Nothing, finds_alike, gives_alike, one_or_alike}
-use Rattle.ssim_program.proofs.Alike.{or_else_alike, prints_alike, require_alike, then_alike}
+use Rattle.ssim_program.proofs.Alike.{or_else_alike, prints_alike, reports_alike, require_alike, then_alike}
 use Rattle.ssim_program.proofs.OneCount.{one_count}
 use Rattle.ssim_program.proofs.Origins.{same_some}
 use Rattle.ssim_program.proofs.SameReading.{SameDesk, data_set_alike, desk_alike, problems_alike}
@@ -112,14 +113,16 @@ lines_of csv records faults =
     else flat_map problem_line faults ++ line
     (printed_text (printed_line.ProblemCount records (length faults)))
 
-pub problems_same : SameBytesSameProblems → (csv : Bool) → DoesTheSame (ProblemsOf csv)
-problems_same one csv files others name another same =
+pub problems_same : SameBytesSameProblems → (form : ProblemsForm) → DoesTheSame (ProblemsOf form)
+problems_same one form files others name another same =
     let mine = problems_in (Some files) name in
     let theirs = problems_in (Some others) another in
-    let printed : Problems → List ℕ = λ p. if csv then problem_rows p else problem_lines p in
-    let next : Problems → Answer (List ℕ) = λ found. Gives (printed found) in
-    prints_alike (mine >>= next) (theirs >>= next)
+    let report : Problems → List ℕ × Bool =
+    λ p. (if form.csv then problem_rows p else problem_lines p, has_problem p) in
+    let next : Problems → Answer (List ℕ × Bool) = λ found. Gives (report found) in
+    reports_alike form.status (mine >>= next) (theirs >>= next)
     (then_alike (λ p q. (p.records ≡ q.records) × (p.faults.items ≡ q.faults.items)) Equal mine theirs
     next next (problems_alike files others name another same one)
-    (λ p q equal. gives_alike (printed p) (printed q)
-    (ap₂ (λ (n : ℕ) (fs : List BaseFault). lines_of csv n fs) equal.0 equal.1)))
+    (λ p q equal. gives_alike (report p) (report q)
+    (ap₂ (λ (n : ℕ) (fs : List BaseFault). (lines_of form.csv n fs, nat_lt 0 (length fs))) equal.0
+    equal.1)))

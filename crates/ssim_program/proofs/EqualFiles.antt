@@ -32,16 +32,17 @@ use Rattle.ssim_base.specs.declared.problems.Problems.{Problems}
 use Rattle.ssim_schedule.specs.declared.export.ExportFault.{ExportFault}
 use Rattle.ssim_schedule.specs.declared.export.ExportFault.TheVariants as export
 use Rattle.ssim_held.specs.Entries.{DeskSeen, Entry, map_of}
-use Rattle.ssim_held.specs.File.{NoTwoDesks}
+use Rattle.ssim_held.specs.File.{NoTwoDesks, row_line}
 use Rattle.ssim_schedule.specs.FlightPieces.{in_order}
 use Rattle.ssim_desk.specs.DateSteps.{steps_on}
-use Rattle.ssim_desk.specs.Desk.{days_of_desk, entry_lines}
+use Rattle.ssim_desk.specs.Desk.{days_of_desk, entry_lines, timetable_of}
 use Rattle.ssim_desk.specs.Meaning.{found_by, left_by}
 use Rattle.ssim_board.specs.declared.board.Board.{Board as StationBoard}
+use Rattle.ssim_overview.specs.SaidRows.{said_rows}
 use Rattle.ssim_outbox.specs.Comparable.{RefusesCarriers}
 use Rattle.ssim_outbox.specs.declared.fault.OutboxFault.{OutboxFault}
 use Rattle.ssim_command_line.specs.Line.{Text, Texts, Withdraw, Show, History, Board}
-use Rattle.ssim_command_line.specs.Line.{Check, Findings, Export, Info, Page}
+use Rattle.ssim_command_line.specs.Line.{Check, Findings, Export, Info, Page, Stations}
 use Rattle.ssim_command_line.specs.Line.{Problems as ProblemsOf, Tidy}
 use Rattle.ssim_command_line.specs.declared.board_form.BoardForm.{BoardForm}
 use Rattle.ssim_program.specs.Acts.{Act, Print, printed_by, prints}
@@ -329,37 +330,38 @@ page_of desk = do
   Gives (desk_page carrier (days_of desk.base.records) desk)
 
 -- what is made of two desks and their carrier records
-abbrev pub Made : Type 1
-Made = DeskSeen → DeskSeen → CarrierFields → CarrierFields → Answer (List ℕ)
+abbrev pub Made : Type 0 → Type 1
+Made A = DeskSeen → DeskSeen → CarrierFields → CarrierFields → Answer A
 
 -- what is made of equal ones is alike
-abbrev pub IsOfDesks : Made → Type 0
+abbrev pub IsOfDesks : {A : Type 0} → Made A → Type 0
 IsOfDesks made =
     (old first new second : DeskSeen) → SameDesk old first → SameDesk new second
     → (mine ours theirs others : CarrierFields) → mine ≡ ours → theirs ≡ others
     → AreAlike Equal (made old new mine theirs) (made first second ours others)
 
 -- what is made of two timetables, from the comparison of the carrier records on
-abbrev pub made_between : Made → DeskSeen → DeskSeen → CarrierFields → CarrierFields → Unit {0}
-    → Answer (List ℕ)
+abbrev pub made_between : {A : Type 0} → Made A → DeskSeen → DeskSeen → CarrierFields → CarrierFields
+    → Unit {0} → Answer A
 made_between made old new mine theirs same = made old new mine theirs
 
-abbrev pub between : Made → DeskSeen → DeskSeen → CarrierFields → CarrierFields → Answer (List ℕ)
+abbrev pub between : {A : Type 0} → Made A → DeskSeen → DeskSeen → CarrierFields → CarrierFields
+    → Answer A
 between made old new mine theirs = compared mine theirs >>= made_between made old new mine theirs
 
-abbrev pub from_carrier : Made → DeskSeen → DeskSeen → CarrierFields → Answer (List ℕ)
+abbrev pub from_carrier : {A : Type 0} → Made A → DeskSeen → DeskSeen → CarrierFields → Answer A
 from_carrier made old new mine = carrier_of new.base.records >>= between made old new mine
 
-abbrev pub of_desks : Made → DeskSeen → DeskSeen → Answer (List ℕ)
+abbrev pub of_desks : {A : Type 0} → Made A → DeskSeen → DeskSeen → Answer A
 of_desks made old new = carrier_of old.base.records >>= from_carrier made old new
 
-abbrev pub to_new : Made → Files → Text → DeskSeen → Answer (List ℕ)
+abbrev pub to_new : {A : Type 0} → Made A → Files → Text → DeskSeen → Answer A
 to_new made files to old = timetable_in (Some files) to >>= of_desks made old
 
 abbrev changed_lines : DeskSeen → DeskSeen → CarrierFields → List ℕ
 changed_lines old new theirs = desk_page theirs (days_of_desk old) new
 
-abbrev changed : Made
+abbrev changed : Made (List ℕ)
 changed old new mine theirs = Gives (changed_lines old new theirs)
 
 -- what is said of a file hangs on the base and the messages of its desk alone
@@ -370,6 +372,10 @@ seen_lines kind.DataSet carrier desk = refl
 seen_lines kind.Script carrier desk = refl
 seen_lines kind.Message carrier desk = refl
 seen_lines kind.Stations carrier desk = refl
+
+-- the station table that a desk's timetable says
+abbrev table_lines : DeskSeen → List ℕ
+table_lines desk = flat_map row_line (said_rows (timetable_of desk))
 
 abbrev info_of : FileKind × DeskSeen → Answer (List ℕ)
 info_of known =
@@ -479,7 +485,12 @@ module _ (frames : FramesAreOne) (one_base : SameBytesSameBase) (no_two : NoTwoD
       ∙ (λ i. info_lines (one.0 i) (both i) (seen (one.1.0 i) (one.1.1 i)))
       ∙ sym (seen_lines other.0 those other.1)))))
 
-  between_alike : (made : Made) → IsOfDesks made → (old first new second : DeskSeen)
+  pub stations_alike : DoesTheSame Stations
+  stations_alike = of_timetables (λ desk. Gives (table_lines desk))
+      (λ desk other one. gives_alike (table_lines desk) (table_lines other)
+      (λ i. table_lines (seen (one.0 i) (one.1 i))))
+
+  between_alike : {A : Type 0} (made : Made A) → IsOfDesks made → (old first new second : DeskSeen)
       → SameDesk old first → SameDesk new second → (mine ours theirs others : CarrierFields)
       → mine ≡ ours → theirs ≡ others
       → AreAlike Equal (between made old new mine theirs)
@@ -493,8 +504,8 @@ module _ (frames : FramesAreOne) (one_base : SameBytesSameBase) (no_two : NoTwoD
       (compared_alike mine theirs)))
       (λ x y both. is old first new second one two mine ours theirs others same same_too)
 
-  desks_alike : (made : Made) → IsOfDesks made → (old first new second : DeskSeen) → SameDesk old first
-      → SameDesk new second → AreAlike Equal (of_desks made old new) (of_desks made first second)
+  desks_alike : {A : Type 0} (made : Made A) → IsOfDesks made → (old first new second : DeskSeen)
+      → SameDesk old first → SameDesk new second → AreAlike Equal (of_desks made old new) (of_desks made first second)
   desks_alike made is old first new second one two =
       then_alike Equal Equal (carrier_of old.base.records) (carrier_of first.base.records)
       (from_carrier made old new) (from_carrier made first second)
@@ -505,23 +516,26 @@ module _ (frames : FramesAreOne) (one_base : SameBytesSameBase) (no_two : NoTwoD
       (λ theirs others. between_alike made is old first new second one two mine ours theirs others
       same))
 
-  pub pairs_alike : (made : Made) → IsOfDesks made → (files others : Files) (from to here there : Text)
+  pub pairs_alike : {A : Type 0} (made : Made A) → IsOfDesks made → (files others : Files)
+      (from to here there : Text)
       → IsSameFile files from others here → IsSameFile files to others there
-      → AreAlike PrintTheSame (prints (timetable_in (Some files) from >>= to_new made files to))
-      (prints (timetable_in (Some others) here >>= to_new made others there))
+      → AreAlike Equal (timetable_in (Some files) from >>= to_new made files to)
+      (timetable_in (Some others) here >>= to_new made others there)
   pairs_alike made is files others from to here there same same_too =
-      let mine = timetable_in (Some files) from in
-      let theirs = timetable_in (Some others) here in
-      prints_alike (mine >>= to_new made files to) (theirs >>= to_new made others there)
-      (then_alike SameDesk Equal mine theirs (to_new made files to) (to_new made others there)
+      then_alike SameDesk Equal (timetable_in (Some files) from) (timetable_in (Some others) here)
+      (to_new made files to) (to_new made others there)
       (timetable_alike files others from here same frames one_base no_two)
       (λ old first one. then_alike SameDesk Equal (timetable_in (Some files) to)
       (timetable_in (Some others) there) (of_desks made old) (of_desks made first)
       (timetable_alike files others to there same_too frames one_base no_two)
-      (λ new second. desks_alike made is old first new second one)))
+      (λ new second. desks_alike made is old first new second one))
 
   pub changed_page_alike : DoesTheSameOfPairs (λ from. Page (Some from))
-  changed_page_alike =
-      pairs_alike changed (λ old first new second one two mine ours theirs others same same_too.
-      gives_alike (changed_lines old new theirs) (changed_lines first second others)
-      (λ i. changed_lines (seen (one.0 i) (one.1 i)) (seen (two.0 i) (two.1 i)) (same_too i)))
+  changed_page_alike files others from to here there same same_too =
+      prints_alike (timetable_in (Some files) from >>= to_new changed files to)
+      (timetable_in (Some others) here >>= to_new changed others there)
+      (pairs_alike changed
+      (λ old first new second one two mine ours theirs others' is is_too.
+      gives_alike (changed_lines old new theirs) (changed_lines first second others')
+      (λ i. changed_lines (seen (one.0 i) (one.1 i)) (seen (two.0 i) (two.1 i)) (is_too i)))
+      files others from to here there same same_too)

@@ -1,20 +1,21 @@
 -- Each call of the program is one event: of the acts that it has done, all that keep a file are done,
 -- or
 -- none, but for the refused texts of `receive`.
-use Rattle.std.proofs.Common.{◌≡◌, ◌∙◌, ◌⊎◌, inl, inr, ℕ, Bool, true, false, List, [], ◌∷◌, ◌++◌}
+use Rattle.std.proofs.Common.{◌≡◌, ◌∙◌, ◌⊎◌, ◌&&◌, inl, inr, ℕ, Bool, true, false, List, [], ◌∷◌, ◌++◌}
 use Rattle.std.proofs.Common.{Option, Some, None, Result, Ok, Err, refl, sym, ap, subst, drop}
 use Rattle.ssim_held.specs.Entries.{DeskSeen}
 use Rattle.ssim_command_line.specs.Line.{Line, Text}
 use Rattle.ssim_command_line.specs.Line as line
 use Rattle.ssim_command_line.specs.Usage.{Names}
-use Rattle.ssim_program.specs.Acts.{Act, Acts, Print, Keep, Stop, is_whole, kept_by}
+use Rattle.ssim_program.specs.Acts.{Act, Acts, Print, Keep, Find, Stop, found_then, is_whole, kept_by}
 use Rattle.ssim_program.specs.Answers.{answers, take_each}
 use Rattle.ssim_program.specs.Files.{Files, Kept, with_kept}
 use Rattle.ssim_program.specs.Calls.{CommandsAreEvents, Continues, GoesOn, IsCall, IsEventOf, Leads}
 use Rattle.ssim_program.specs.Offices.{Event, Happened, History, Leaves, Then, files_of}
-use Rattle.ssim_program.specs.Offices.{StartKept, TakeKept, ReceiveKept, MergeKept, CarryKept}
+use Rattle.ssim_program.specs.Offices.{StartKept, TakeKept, ReceiveKept, MergeKept, MergeSinceKept, CarryKept}
 use Rattle.ssim_program.specs.Offices.{WithdrawKept, Unchanged, Came, AllCame}
-use Rattle.ssim_program.specs.Receiving.{Receipt, received_files, refused_texts}
+use Rattle.ssim_program.specs.Receiving.{Receipt, any_refused, receipt_lines, received_files}
+use Rattle.ssim_program.specs.Receiving.{refused_texts}
 use Rattle.ssim_program.specs.Runs.{Runs}
 use Rattle.ssim_program.specs.World.{World}
 use Rattle.ssim_program.specs.print.Paper.{Paper}
@@ -29,7 +30,13 @@ kept_apart [] later = refl
 kept_apart (Print bytes ∷ done) later = kept_apart done later
 kept_apart (Keep name bytes ∷ done) later =
     ap (λ (k : Kept). (name, bytes) ∷ k) (kept_apart done later)
+kept_apart (Find ∷ done) later = kept_apart done later
 kept_apart (Stop why ∷ done) later = kept_apart done later
+
+-- to say that something was found keeps no file
+kept_too : (found : Bool) (acts : List Act) → kept_by (found_then found acts) ≡ kept_by acts
+kept_too true acts = refl
+kept_too false acts = refl
 
 none_of : (one other : Kept) → one ++ other ≡ [] → one ≡ []
 none_of [] other e = refl
@@ -131,19 +138,29 @@ taken files out (name ∷ names) desk acts (made, one, (later, inr (why, not_so,
 
 module _ (old new : Files) (acts done later : List Act) (split : acts ≡ done ++ later)
     (left : Some new ≡ with_kept (kept_by done) (Some old)) where
-  received : (refused : Option Text) (desk out : Text) (names : List Text)
-      → answers (line.Receive refused desk out names) (Some old) (Ok acts)
-      → Leads (line.Receive refused desk out names) old new
-  received None desk out names (_, places, (result, got, are)) =
-      keeps_one (line.Receive None desk out names) old new acts done later split left _
-      (ReceiveKept None desk out names result.0) (ap kept_by are) (inl (result.0, refl))
-      (λ is. (result.1, got, is ∙ ap (λ (k : Kept). with_kept k (Some old)) (ap kept_by are)))
-  received (Some name) desk out names (_, places, (result, got, are)) =
-      keeps_two (line.Receive (Some name) desk out names) old new acts done later split left
+  -- what `receive` keeps, whatever its status says
+  kept_of : (refused : Option Text) (found : Bool) (out : Text) (receipts : List Receipt) (after : DeskSeen)
+      → acts ≡ found_then found
+      (Print (receipt_lines receipts) ∷ received_files refused out receipts after)
+      → kept_by acts ≡ kept_by (received_files refused out receipts after)
+  kept_of refused found out receipts after are = ap kept_by are
+      ∙ kept_too found (Print (receipt_lines receipts) ∷ received_files refused out receipts after)
+
+  received : (refused : Option Text) (status : Bool) (desk out : Text) (names : List Text)
+      → answers (line.Receive refused status desk out names) (Some old) (Ok acts)
+      → Leads (line.Receive refused status desk out names) old new
+  received None status desk out names (_, places, (result, got, are)) =
+      let kept = kept_of None (status && any_refused result.0) out result.0 result.1 are in
+      keeps_one (line.Receive None status desk out names) old new acts done later split left _
+      (ReceiveKept None desk out names result.0) kept (inl (result.0, refl))
+      (λ is. (result.1, got, is ∙ ap (λ (k : Kept). with_kept k (Some old)) kept))
+  received (Some name) status desk out names (_, places, (result, got, are)) =
+      let kept = kept_of (Some name) (status && any_refused result.0) out result.0 result.1 are in
+      keeps_two (line.Receive (Some name) status desk out names) old new acts done later split left
       (name, refused_texts result.0) _ (ReceiveKept (Some name) desk out names result.0)
-      (ap kept_by are) (inl (result.0, refl))
+      kept (inl (result.0, refl))
       (inr (name, refused_texts result.0, refl, refl))
-      (λ is. (result.1, got, is ∙ ap (λ (k : Kept). with_kept k (Some old)) (ap kept_by are)))
+      (λ is. (result.1, got, is ∙ ap (λ (k : Kept). with_kept k (Some old)) kept))
 
   took : (desk out : Text) (texts : List Text)
       → answers (line.Take desk out texts) (Some old) (Ok acts)
@@ -162,8 +179,9 @@ module _ (old new : Files) (acts done later : List Act) (split : acts ≡ done +
   of_line : (l : Line) → answers l (Some old) (Ok acts) → Leads l old new
   of_line (line.Check name) (bytes, is, are) =
       looks _ old new acts done later split left (ap kept_by are)
-  of_line (line.Problems csv name) (bytes, is, are) =
-      looks _ old new acts done later split left (ap kept_by are)
+  of_line (line.Problems form name) (made, is, are) =
+      looks _ old new acts done later split left
+      (ap kept_by are ∙ kept_too (form.status && made.1) (Print made.0 ∷ []))
   of_line (line.Tidy name) (set, read, (bytes, is, are)) =
       looks _ old new acts done later split left (ap kept_by are)
   of_line (line.Start dataset stations out) (_, may, (base, read, (records, are))) =
@@ -171,8 +189,20 @@ module _ (old new : Files) (acts done later : List Act) (split : acts ≡ done +
       (ap kept_by are) refl
       (λ is. (acts, (tt, may, (base, read, (records, are))), ap is_whole are, is))
   of_line (line.Take desk out texts) made = took desk out texts made
-  of_line (line.Receive refused desk out names) made = received refused desk out names made
-  of_line (line.Merge mine theirs out)
+  of_line (line.Receive refused status desk out names) made =
+      received refused status desk out names made
+  of_line (line.Merge (Some since) mine theirs out)
+      (_, may, (first, older, (one, read, (other, reads, (_, over, (after, merges, (rising, are))))))) =
+      keeps_one _ old new acts done later split left _ (MergeSinceKept since mine theirs out)
+      (ap kept_by are) refl
+      (λ is. (
+        acts,
+        (tt, may, (first, older, (one, read, (other, reads, (tt, over, (after, merges, (rising, are))))))),
+        ap
+            is_whole are,
+        is,
+      ))
+  of_line (line.Merge None mine theirs out)
       (_, may, (one, read, (other, reads, (after, is_merge, (rising, are))))) =
       keeps_one _ old new acts done later split left _ (MergeKept mine theirs out) (ap kept_by are)
       refl
@@ -213,10 +243,13 @@ module _ (old new : Files) (acts done later : List Act) (split : acts ≡ done +
       looks _ old new acts done later split left (ap kept_by are)
   of_line (line.Info file) (bytes, is, are) =
       looks _ old new acts done later split left (ap kept_by are)
+  of_line (line.Stations file) (bytes, is, are) =
+      looks _ old new acts done later split left (ap kept_by are)
   of_line (line.Page from file) (bytes, is, are) =
       looks _ old new acts done later split left (ap kept_by are)
-  of_line (line.Diff form words from to flights) (bytes, is, are) =
-      looks _ old new acts done later split left (ap kept_by are)
+  of_line (line.Diff form words from to flights) (made, is, are) =
+      looks _ old new acts done later split left
+      (ap kept_by are ∙ kept_too (form.status && made.1) (Print made.0 ∷ []))
   of_line (line.Publish from to reference out)
       (_, may, (one, read, (other, reads, (mail, publishes, are)))) =
       keeps_one _ old new acts done later split left _ (Came out mail.1) (ap kept_by are)
@@ -241,8 +274,9 @@ module _ (old new : Files) (acts done later : List Act) (split : acts ≡ done +
       looks _ old new acts done later split left (ap kept_by are)
   of_line (line.Rehearse dataset stations script) (bytes, is, are) =
       looks _ old new acts done later split left (ap kept_by are)
-  of_line (line.Explain word) (bytes, is, are) =
-      looks _ old new acts done later split left (ap kept_by are)
+  of_line (line.Explain status word) (made, is, are) =
+      looks _ old new acts done later split left
+      (ap kept_by are ∙ kept_too (status && made.1) (Print made.0 ∷ []))
 
   call : (l : Line) → Acts (answers l (Some old)) acts → Leads l old new
   call l (inl made) = of_line l made
@@ -293,7 +327,7 @@ called_line words l old new now names at lead = by lead.is
 
 called : (words : List Text) (before after : World) (err err' : Paper) (status : ℕ) (old : Files)
     → before.files ≡ Some old → Runs words before after err err' status → Called words old after.files
-called words before after err err' status old at (inl (l, names, inl (is, does, again, same))) =
+called words before after err err' status old at (inl (l, names, inl (does, is, again, same))) =
     let e = commands_are_events l before after (Ok tt) old at does in
     called_line words l old e.0 after.files names e.1 e.2
 called words before after err err' status old at (inl (l, names, inr (is, why, does, printed))) =

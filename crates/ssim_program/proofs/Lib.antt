@@ -1,4 +1,5 @@
 pub mod Printers
+pub mod Differences
 pub mod Acting
 pub mod Again
 pub mod Exporting
@@ -20,6 +21,7 @@ pub mod Scripted
 pub mod Splitting
 pub mod RefusedSections
 pub mod Withdrawing
+pub mod MergingSince
 pub mod Carrying
 pub mod CarriedLines
 pub mod Origins
@@ -31,6 +33,7 @@ pub mod ReceivedConflicts
 pub mod RefusedMail
 pub mod OfficeFiles
 pub mod Offices
+pub mod OfficesAgree
 pub mod Turns
 pub mod OneCount
 pub mod Alike

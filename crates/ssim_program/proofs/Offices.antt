@@ -1,11 +1,10 @@
 -- Each desk file has the messages that were brought to it, event by event.
-use Rattle.std.proofs.Common.{◌≡◌, ◌∙◌, ◌⊎◌, ◌↔◌, inl, inr, ℕ, ◌≤◌, ◌<◌, ◌^◌, true, List, [], ◌∷◌}
-use Rattle.std.proofs.Common.{length, Option, None, Some, Ok, refl, sym, ap, subst, arith}
-use Rattle.std.specs.FinMap.{entries, get, same_entries_map}
+use Rattle.std.proofs.Common.{◌≡◌, ◌∙◌, ◌⊎◌, ◌↔◌, inl, inr, ℕ, ◌≤◌, true, List, [], ◌∷◌}
+use Rattle.std.proofs.Common.{length, Option, None, Some, Ok, refl, sym, ap, subst}
+use Rattle.std.specs.FinMap.{get, same_entries_map}
 use Rattle.ssim_base.specs.BaseSeen.{BaseSeen}
-use Rattle.ssim_base.specs.Reading.{IsReadAs, IsReadOf, SameBytesSameBase}
-use Rattle.ssim_base.specs.Stations.{SameBytesSameRows, SpellsTable}
-use Rattle.ssim_base.specs.declared.note.Note.{Note}
+use Rattle.ssim_base.specs.Reading.{IsReadOf}
+use Rattle.ssim_base.specs.Stations.{SpellsTable}
 use Rattle.ssim_text.specs.Grammar.{OneMessage}
 use Rattle.ssim_text.specs.Message.{MessageValue}
 use Rattle.ssim_text.specs.Reference.{OneReference}
@@ -14,8 +13,7 @@ use Rattle.ssim_text.specs.declared.reference.Reference.{Reference}
 use Rattle.ssim_held.proofs.Entries.{entries-map_of, get-map_of}
 use Rattle.ssim_held.specs.Entries.{AreRising, DeskSeen, Entry, keyed, map_of, state_of}
 use Rattle.ssim_held.specs.File.{CanBeSaved, IsDeskFile, NoTwoDesks, desk_file}
-use Rattle.ssim_held.specs.Held.{DeskState, HeldMessages, Says}
-use Rattle.ssim_desk.proofs.Agreeing.{same_desk}
+use Rattle.ssim_held.specs.Held.{HeldMessages, Says}
 use Rattle.ssim_desk.proofs.Taking.{merge_holds, take_holds}
 use Rattle.ssim_desk.specs.Desk.{take_answer}
 use Rattle.ssim_desk.specs.Deliveries.{is_accepted}
@@ -23,17 +21,17 @@ use Rattle.ssim_desk.specs.declared.steps.Answer.TheVariants.{Merged}
 use Rattle.ssim_command_line.specs.Line.{Text}
 use Rattle.ssim_program.specs.Carrying.{IsCarried, MeansTheSame}
 use Rattle.ssim_program.specs.Desks.{desk_in, text_taken}
+use Rattle.ssim_program.specs.MergingSince.{held_by, older_in}
 use Rattle.ssim_program.specs.internal.Take.{TakesTexts}
 use Rattle.ssim_program.specs.Files.{Files, file_of}
 use Rattle.ssim_program.specs.Made.{file_limit}
 use Rattle.ssim_program.specs.Receiving.{IsAccepted, Receipt, texts_received}
-use Rattle.ssim_program.specs.Offices.{BeganBy, BeganFrom, Began, Bringing, Brought, BroughtBy}
-use Rattle.ssim_program.specs.Offices.{Happened, History, HoldsWhatWasBrought, IsIn, IsReadFrom}
-use Rattle.ssim_program.specs.Offices.{IsSaid, IsSavedFrom, OfficesAgree, Origin, Then, files_of}
-use Rattle.ssim_program.specs.Offices.{origin_of}
+use Rattle.ssim_program.specs.Offices.{BeganBy, Bringing, BroughtBy}
+use Rattle.ssim_program.specs.Offices.{IsHeldIn, IsIn, IsReadFrom}
+use Rattle.ssim_program.specs.Offices.{IsSaid, IsSavedFrom, Origin}
 use Rattle.ssim_program.specs.Offices as office
 use Rattle.ssim_program.proofs.AcceptedTexts.{accepted, after_files}
-use Rattle.ssim_program.proofs.Origins.{Comes, comes, same_some, read_from}
+use Rattle.ssim_program.proofs.Origins.{Comes, same_some, read_from}
 use Rattle.ssim_program.proofs.SavedDesks.{IsValid, is_listed, same_file, valid_carry, valid_fewer}
 use Rattle.ssim_program.proofs.SavedDesks.{valid_file, valid_merge, valid_start, valid_take}
 use Rattle.ssim_program.proofs.Withdrawing.{left_after}
@@ -41,10 +39,14 @@ use Rattle.ssim_program.specs.Withdrawing.{IsNamed}
 use Rattle.ssim_program.proofs.OfficeFiles.{AfterTexts, Holding, IsFounded, IsKept, Messages, Reads}
 use Rattle.ssim_program.proofs.OfficeFiles.{small}
 
+-- no desk file is empty
+no_desk_file : (base : BaseSeen) (held : List Entry) → IsDeskFile [] base held → ⊥
+no_desk_file base held is = elim is.is_file [ inl now ↦ cc | inr before ↦ cc ]
+
 module _ (one : OneMessage) (again : CanonicalReadsBack) (one_each : OneReference)
     (no_two : NoTwoDesks) where
   -- a file is read as one desk
-  one_desk : (file : Option (List ℕ)) (base other : BaseSeen) (held others : List Entry)
+  pub one_desk : (file : Option (List ℕ)) (base other : BaseSeen) (held others : List Entry)
       → Reads file base held → Reads file other others → (base ≡ other) × (held ≡ others)
   one_desk file base other held others (bytes, short, is, desk) (more, less, are, another) =
       no_two bytes base other held others (small bytes short) desk
@@ -87,7 +89,7 @@ module _ (one : OneMessage) (again : CanonicalReadsBack) (one_each : OneReferenc
       }
 
   -- the file of a desk that was saved from these bytes
-  saved : (bytes d s : List ℕ) (file : Option (List ℕ)) (brought : Messages) → file ≡ Some bytes
+  pub saved : (bytes d s : List ℕ) (file : Option (List ℕ)) (brought : Messages) → file ≡ Some bytes
       → ((r : Reference) (m : MessageValue) → IsIn bytes r m ↔ brought r m) → IsSavedFrom bytes d s
       → IsFounded file brought d s
   saved bytes d s file brought at same (base, held, short, is, can, from) = (
@@ -184,7 +186,7 @@ module _ (one : OneMessage) (again : CanonicalReadsBack) (one_each : OneReferenc
 
   -- ---- one event
 
-  reads_of : (files : Files) (name : Text) (desk : DeskSeen) → desk_in (Some files) name (Ok desk)
+  pub reads_of : (files : Files) (name : Text) (desk : DeskSeen) → desk_in (Some files) name (Ok desk)
       → Reads (file_of files name) desk.base desk.held
   reads_of files name desk (bytes, has, is) = (bytes, has.0, has.1, is)
 
@@ -321,6 +323,91 @@ module _ (one : OneMessage) (again : CanonicalReadsBack) (one_each : OneReferenc
                   m).1 b,
             )
 
+    -- what an older desk file holds
+    in_older : (since : Text) (old : Option DeskSeen) (r : Reference) (m : MessageValue)
+        → older_in (Some files) since (Ok old)
+        → IsHeldIn files since r m ↔ (get (map_of (held_by old)) r ≡ Some m)
+    in_older since None r m (bytes, has, empty) = (
+      λ (desk, (more, are, is), held). absurd (no_desk_file desk.base desk.held
+          (subst (λ (bs : List ℕ). IsDeskFile bs desk.base desk.held)
+          (same_some more bytes (sym are.1 ∙ has.1) ∙ empty) is)),
+      λ held. let none : get (map_of []) r ≡ None = get-map_of [] r refl in
+          absurd cc,
+    )
+    in_older since (Some old) r m (bytes, has, is) = (
+      λ (desk, read, held). subst (λ (es : List Entry). get (map_of es) r ≡ Some m)
+          (one_desk (file_of files since) desk.base old.base desk.held old.held
+          (reads_of files since desk read) (reads_of files since old (bytes, has, is))).1 held,
+      λ held. (old, (bytes, has, is), held),
+    )
+
+    -- a desk that two were merged to since an older one
+    after_since : (since name another : Text) (file : Option (List ℕ))
+        (c : Comes (office.MergedSince since name another) files file)
+        → IsKept file c.1.mine.base (BroughtBy (office.MergedSince since name another) files brought)
+    after_since since name another file (after, c, is) =
+        subst (λ (b : BaseSeen). IsKept file b
+        (BroughtBy (office.MergedSince since name another) files brought)) (c.merge.base ∙ c.without.base)
+        (is_kept file after.base after.held
+        (BroughtBy (office.MergedSince since name another) files brought) c.rising
+        (subst (λ (b : BaseSeen). IsValid b (map_of after.held)) (sym c.merge.base)
+        (valid_merge (state_of c.left) (state_of c.brought) (map_of after.held)
+        (fewer c.mine c.left c.here.2.saved c.without.base (λ r m h. ((c.without.holds r m).0 h).0))
+        (fewer c.theirs c.brought c.there.2.saved c.without_too.base
+        (λ r m h. ((c.without_too.holds r m).0 h).0)) c.merge.merges))
+        is (λ r m. (λ h. there r m ((all r m).0 h), λ s. (all r m).1 (back r m s))))
+      where
+        fewer : (desk less : DeskSeen) → CanBeSaved desk.base desk.held → less.base ≡ desk.base
+            → ((r : Reference) (m : MessageValue) → get (map_of less.held) r ≡ Some m
+            → get (map_of desk.held) r ≡ Some m)
+            → IsValid less.base (map_of less.held)
+        fewer desk less can base some =
+            subst (λ (b : BaseSeen). IsValid b (map_of less.held)) (sym base)
+            (valid_fewer desk.base (map_of desk.held) (map_of less.held)
+            (valid_file desk.base desk.held can) some)
+
+        all : (r : Reference) (m : MessageValue)
+            → (get (map_of after.held) r ≡ Some m) ↔ ((get (map_of c.left.held) r ≡ Some m)
+            ⊎ ((Merged ≡ Merged) × (get (map_of c.brought.held) r ≡ Some m)))
+        all = merge_holds (state_of c.left) (state_of c.brought) Merged (map_of after.held)
+            c.merge.merges
+
+        here : (r : Reference) (m : MessageValue)
+            → (get (map_of c.mine.held) r ≡ Some m) ↔ brought name r m
+        here = before name c.mine.base c.mine.held (reads_of files name c.mine c.here)
+
+        other : (r : Reference) (m : MessageValue)
+            → (get (map_of c.theirs.held) r ≡ Some m) ↔ brought another r m
+        other = before another c.theirs.base c.theirs.held (reads_of files another c.theirs c.there)
+
+        there : (r : Reference) (m : MessageValue) → (get (map_of c.left.held) r ≡ Some m)
+            ⊎ ((Merged ≡ Merged) × (get (map_of c.brought.held) r ≡ Some m))
+            → BroughtBy (office.MergedSince since name another) files brought r m
+        there r m (inl h) =
+            let l = (c.without.holds r m).0 h in
+            inl ((here r m).0 l.0, λ held. (other r m).0 (l.1 ((in_older since c.old r m c.older).0 held)))
+        there r m (inr h) =
+            let l = (c.without_too.holds r m).0 h.1 in
+            inr ((other r m).0 l.0, λ held. (here r m).0 (l.1 ((in_older since c.old r m c.older).0 held)))
+
+        back : (r : Reference) (m : MessageValue)
+            → BroughtBy (office.MergedSince since name another) files brought r m
+            → (get (map_of c.left.held) r ≡ Some m)
+            ⊎ ((Merged ≡ Merged) × (get (map_of c.brought.held) r ≡ Some m))
+        back r m (inl b) =
+            inl ((c.without.holds r m).1 (
+              (here r m).1 b.0,
+              λ held. (other r m).1 (b.1 ((in_older since c.old r m c.older).1 held)),
+            ))
+        back r m (inr b) =
+            inr (
+              refl,
+              (c.without_too.holds r m).1 (
+                (other r m).1 b.0,
+                λ held. (here r m).1 (b.1 ((in_older since c.old r m c.older).1 held)),
+              ),
+            )
+
     -- a desk to which messages of another were carried
     after_carry : (name another : Text) (file : Option (List ℕ))
         (c : Comes (office.Carried name another) files file)
@@ -406,7 +493,7 @@ module _ (one : OneMessage) (again : CanonicalReadsBack) (one_each : OneReferenc
         )
 
     -- after an event, each file holds what was brought to it
-    holding : (origin : Origin) (file : Option (List ℕ)) → Comes origin files file
+    pub holding : (origin : Origin) (file : Option (List ℕ)) → Comes origin files file
         → Holding file (BroughtBy origin files brought)
     holding (office.Was name) file c =
         subst (λ (f : Option (List ℕ)). Holding f (brought name)) (sym c) (before name)
@@ -418,6 +505,8 @@ module _ (one : OneMessage) (again : CanonicalReadsBack) (one_each : OneReferenc
         kept_holding file c.0.base _ (after_receive name names receipts file c)
     holding (office.Merged name another) file c =
         kept_holding file c.0.base _ (after_merge name another file c)
+    holding (office.MergedSince since name another) file c =
+        kept_holding file c.1.mine.base _ (after_since since name another file c)
     holding (office.Carried name another) file c =
         kept_holding file c.0.base _ (after_carry name another file c)
     holding (office.Withdrew name words) file c =
@@ -426,7 +515,7 @@ module _ (one : OneMessage) (again : CanonicalReadsBack) (one_each : OneReferenc
         subst (λ (f : Option (List ℕ)). Holding f (IsIn bytes)) (sym c) (given bytes)
 
     -- and each desk that began by `start` is over the base that it began from
-    founded : (began : Text → List ℕ → List ℕ → Type 0) (d s : List ℕ)
+    pub founded : (began : Text → List ℕ → List ℕ → Type 0) (d s : List ℕ)
         → ((name : Text) → began name d s → IsFounded (file_of files name) (brought name) d s)
         → (origin : Origin) (file : Option (List ℕ)) → Comes origin files file
         → BeganBy origin files began d s → IsFounded file (BroughtBy origin files brought) d s
@@ -477,6 +566,16 @@ module _ (one : OneMessage) (again : CanonicalReadsBack) (one_each : OneReferenc
           after_merge name another
               file c,
         )
+    founded began d s earlier (office.MergedSince since name another) file c from =
+        let first = earlier name from in
+        let same =
+        kept_desk (file_of files name) first.0 c.1.mine.base (brought name) c.1.mine.held first.2
+        (reads_of files name c.1.mine c.1.here) in (
+          c.1.mine.base,
+          subst (λ (b : BaseSeen). IsReadFrom b d s) same.0 first.1,
+          after_since since name another
+              file c,
+        )
     founded began d s earlier (office.Carried name another) file c from =
         let first = earlier name from in
         let same =
@@ -499,73 +598,3 @@ module _ (one : OneMessage) (again : CanonicalReadsBack) (one_each : OneReferenc
         )
     founded began d s earlier (office.Given bytes) file c from =
         saved bytes d s file (IsIn bytes) c (λ r m. (λ x. x, λ x. x)) from
-
-  -- ---- histories
-
-  at_beginning : (files : Files) (name : Text)
-      → Holding (file_of files name) (Brought (Began files) name)
-  at_beginning files name base held (bytes, short, is, desk) r m = (
-    λ h. (bytes, is, (base, held, short, desk, h)),
-    λ x. let found = x.2 in
-        subst (λ (es : List Entry). get (map_of es) r ≡ Some m)
-        (one_desk (file_of files name) found.0 base found.1 held (x.0, found.2, x.1, found.3)
-        (bytes, short, is, desk)).1 found.4,
-  )
-
-  each_holds : (history : History) → Happened history → (name : Text)
-      → Holding (file_of (files_of history) name) (Brought history name)
-  each_holds (Began files) happened name = at_beginning files name
-  each_holds (Then history event files) happened name =
-      holding (files_of history) (Brought history) (each_holds history happened.0)
-      (origin_of event name) (file_of files name)
-      (comes event (files_of history) files name happened.1)
-
-  each_founded : (history : History) → Happened history → (name : Text) (d s : List ℕ)
-      → BeganFrom history name d s
-      → IsFounded (file_of (files_of history) name) (Brought history name) d s
-  each_founded (Began files) happened name d s (bytes, is, from) =
-      saved bytes d s (file_of files name) (Brought (Began files) name) is
-      (λ r m. (
-        λ x. (bytes, is, x),
-        λ x. subst (λ (bs : List ℕ). IsIn bs r m)
-            (same_some x.0 bytes (sym x.1 ∙ is)) x.2,
-      )) from
-  each_founded (Then history event files) happened name d s from =
-      founded (files_of history) (Brought history) (each_holds history happened.0) (BeganFrom history)
-      d s (λ other began. each_founded history happened.0 other d s began)
-      (origin_of event name) (file_of files name)
-      (comes event (files_of history) files name happened.1) from
-
-  pub holds_what_was_brought : HoldsWhatWasBrought
-  holds_what_was_brought history name desk happened reads =
-      each_holds history happened name desk.base desk.held
-      (reads_of (files_of history) name desk reads)
-
-  -- two desks over one base with the same messages have one file
-  pub offices_agree : SameBytesSameBase → SameBytesSameRows → OfficesAgree
-  offices_agree same_base same_rows here there name another happened also brought =
-      let mine = each_founded here happened name brought.dataset brought.stations brought.began_one in
-      let theirs =
-      each_founded there also another brought.dataset brought.stations brought.began_other in
-      let records =
-      (same_base brought.dataset file_limit file_limit mine.0.records theirs.0.records mine.1.0
-      theirs.1.0 mine.1.1 theirs.1.1).0 in
-      let rows = same_rows brought.stations mine.0.rows theirs.0.rows mine.1.2 theirs.1.2 in
-      let base : mine.0 ≡ theirs.0 = λ i. record { records = records i; rows = rows i } in
-      let held =
-      same_desk (record { base = mine.0; held = map_of mine.2.held })
-      (record { base = theirs.0; held = map_of theirs.2.held }) base
-      (λ r m h. (theirs.2.holds r m).1 ((brought.same r m).0 ((mine.2.holds r m).0 h)))
-      (λ r m h. (mine.2.holds r m).1 ((brought.same r m).1 ((theirs.2.holds r m).0 h))) in
-      let all : keyed mine.2.held ≡ keyed theirs.2.held =
-      sym (entries-map_of mine.2.held mine.2.can.entries_are.rising)
-      ∙ ap (λ (x : DeskState). entries x.held) held
-      ∙ entries-map_of theirs.2.held theirs.2.can.entries_are.rising in
-      let files : desk_file mine.0 mine.2.held ≡ desk_file theirs.0 theirs.2.held =
-      same_file mine.0 mine.2.held theirs.2.held all
-      ∙ ap (λ (b : BaseSeen). desk_file b theirs.2.held) base in (
-        desk_file mine.0 mine.2.held,
-        mine.2.is,
-        theirs.2.is
-            ∙ ap (λ (bytes : List ℕ). Some bytes) (sym files),
-      )

@@ -16,7 +16,9 @@ use Rattle.ssim_program.specs.internal.Take.{TakesTexts}
 use Rattle.ssim_program.specs.Files.{Files, Kept, file_of, with_kept}
 use Rattle.ssim_command_line.specs.Line.{Text}
 use Rattle.ssim_program.specs.Made.{HasFile, ReadsFile, base_in}
+use Rattle.ssim_program.specs.MergingSince.{IsOver, IsWithoutWithdrawn, held_by, older_in}
 use Rattle.ssim_program.specs.Offices.{Event, StartKept, TakeKept, ReceiveKept, MergeKept, CarryKept}
+use Rattle.ssim_program.specs.Offices.{MergeSinceKept, MergedSince}
 use Rattle.ssim_program.specs.Offices.{WithdrawKept, Unchanged, Copied, Came, AllCame, origin_among}
 use Rattle.ssim_program.specs.Offices.{Leaves, Origin, Was, Started, Took, Merged, Carried, Withdrew}
 use Rattle.ssim_program.specs.Offices.{Given, origin_of}
@@ -46,6 +48,22 @@ read_from files dataset stations base (bytes, there, (table, has, (rows, spells,
           spells;
     }
 
+-- the desk is that of two desk files, merged since an older one
+pub record IsSinceMerge (files : Files) (since one other : Text) (after : DeskSeen) : Type 0 where
+  pub old : Option DeskSeen
+  pub mine : DeskSeen
+  pub theirs : DeskSeen
+  pub left : DeskSeen
+  pub brought : DeskSeen
+  pub older : older_in (Some files) since (Ok old)
+  pub here : desk_in (Some files) one (Ok mine)
+  pub there : desk_in (Some files) other (Ok theirs)
+  pub over : IsOver old mine
+  pub without : IsWithoutWithdrawn (held_by old) theirs mine left
+  pub without_too : IsWithoutWithdrawn (held_by old) mine theirs brought
+  pub merge : IsMergeOf left brought after
+  pub rising : AreRising after.held
+
 -- what the file of a name is, by where it comes from
 abbrev pub Comes : Origin → Files → Option (List ℕ) → Type 0
 Comes (Was name) files file = file ≡ file_of files name
@@ -64,6 +82,9 @@ Comes (TookSome desk names receipts) files file =
 Comes (Merged one other) files file =
     (mine : DeskSeen) × (theirs : DeskSeen) × (after : DeskSeen) × desk_in (Some files) one (Ok mine)
     × desk_in (Some files) other (Ok theirs) × IsMergeOf mine theirs after × AreRising after.held
+    × (file ≡ Some (desk_file after.base after.held))
+Comes (MergedSince since one other) files file =
+    (after : DeskSeen) × IsSinceMerge files since one other after
     × (file ≡ Some (desk_file after.base after.held))
 Comes (Carried one other) files file =
     (mine : DeskSeen) × (theirs : DeskSeen) × (after : DeskSeen) × (lines : List ℕ)
@@ -185,6 +206,53 @@ comes (MergeKept one other out) old new name
     written out name bytes old new (Merged one other)
     (with_file out bytes acts old new (ap kept_by are) is)
     (mine, theirs, after, read, reads, is_merge, rising, refl)
+comes (MergeSinceKept since one other out) old new name (
+  acts,
+  (
+    _,
+    may,
+    (
+      first,
+      older,
+      (
+        mine,
+        read,
+        (
+          theirs,
+          reads,
+          (
+            _,
+            over,
+            (after, (left, stays, (brought, comes_too, is_merge)), (rising, are)),
+          ),
+        ),
+      ),
+    ),
+  ),
+  whole,
+  is,
+) =
+    let bytes = desk_file after.base after.held in
+    written out name bytes old new (MergedSince since one other)
+    (with_file out bytes acts old new (ap kept_by are) is) (
+      after,
+      record {
+        old = first;
+        mine = mine;
+        theirs = theirs;
+        left = left;
+        brought = brought;
+        older = older;
+        here = read;
+        there = reads;
+        over = over;
+        without = stays;
+        without_too = comes_too;
+        merge = is_merge;
+        rising = rising;
+      },
+      refl,
+    )
 comes (CarryKept one other out) old new name (
   acts,
   (_, may, (mine, read, (theirs, reads, (_, alike, (made, is_carry, (rising, are)))))),

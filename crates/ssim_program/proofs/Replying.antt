@@ -1,5 +1,5 @@
 -- What the program replies to words that are no command.
-use Rattle.std.proofs.Common.{◌≡◌, ◌≤◌, ◌∙◌, ◌⊎◌, inl, inr, ℕ, Bool, true, false, refl, List, [], ◌∷◌, Result, Ok, Err, ap, arith}
+use Rattle.std.proofs.Common.{◌≡◌, ◌≤◌, ◌∙◌, ◌⊎◌, if◌then◌else◌, inl, inr, ℕ, Bool, true, false, refl, List, [], ◌∷◌, Result, Ok, Err, ap, arith, subst, sym}
 use Rattle.clap.specs.Kinds.{IsAmong}
 use Rattle.clap.specs.Values.{kind_of}
 use Rattle.clap.specs.Words.{fault_of}
@@ -10,7 +10,7 @@ use Rattle.ssim_command_line.specs.clauses.Usage.{IsFaultOf}
 use Rattle.ssim_command_line.specs.Usage.{is_help}
 use Rattle.ssim_command_line.specs.declared.command_line.LineFault.{LineFault}
 use Rattle.ssim_command_line.specs.declared.command_line.LineFault.TheVariants as fault
-use Rattle.ssim_program.specs.Acts.{Act, Print, Keep, Stop}
+use Rattle.ssim_program.specs.Acts.{Act, Print, Keep, Find, Stop, finds}
 use Rattle.ssim_program.specs.print.Refusal.{refusal_text}
 use Rattle.ssim_program.specs.declared.refusal.Refusal.{Refusal}
 use Rattle.ssim_program.specs.declared.refusal.Refusal.TheVariants as refused
@@ -23,11 +23,15 @@ use Rattle.ssim_program.specs.print.Paper.{Paper, PrintsOrFails}
 abbrev line_bytes : Refusal → List ℕ
 line_bytes refusal = line (refusal_text refusal)
 
-pub status_obeyed : (line : Line) (before after : World) (err err' : Paper) (status : ℕ) → Obeys line before after err err' status → status ≤ 2
-status_obeyed line before after err err' status (inl done) = omega (arith, done.0)
+found_small : (found : Bool) → (if found then 3 else 0) ≤ 3
+found_small true = omega arith
+found_small false = omega arith
+
+pub status_obeyed : (line : Line) (before after : World) (err err' : Paper) (status : ℕ) → Obeys line before after err err' status → status ≤ 3
+status_obeyed line before after err err' status (inl done) = subst (λ (n : ℕ). n ≤ 3) (sym done.1) (found_small (finds done.0.0))
 status_obeyed line before after err err' status (inr refused) = omega (arith, refused.0)
 
-pub status_replied : (words : List Text) (out out' err err' : Paper) (status : ℕ) → Replies words out out' err err' status → status ≤ 2
+pub status_replied : (words : List Text) (out out' err err' : Paper) (status : ℕ) → Replies words out out' err err' status → status ≤ 3
 status_replied words out out' err err' status (inl (help, inl asked)) = omega (arith, asked.0)
 status_replied words out out' err err' status (inl (help, inr refused)) = omega (arith, refused.0)
 status_replied words out out' err err' status (inr (inl wrong)) = omega (arith, wrong.1)
@@ -40,6 +44,8 @@ acted_device (Print bytes) w v (Ok x) acted = acted.0.device
 acted_device (Print bytes) w v (Err why) acted = acted.1.device
 acted_device (Keep name bytes) w v (Ok x) acted = ap (λ (p : Paper). p.device) acted.2
 acted_device (Keep name bytes) w v (Err why) acted = ap (λ (p : Paper). p.device) acted.2
+acted_device Find w v (Ok x) acted = ap (λ (x : World). x.out.device) acted
+acted_device Find w v (Err why) acted = absurd acted
 acted_device (Stop refusal) w v (Ok x) acted = absurd acted
 acted_device (Stop refusal) w v (Err why) acted = ap (λ (x : World). x.out.device) acted.1
 
@@ -54,7 +60,7 @@ printed_device bytes p q (inl grows) = grows.device
 printed_device bytes p q (inr breaks) = breaks.device
 
 pub devices_obeyed : (line : Line) (before after : World) (err err' : Paper) (status : ℕ) → Obeys line before after err err' status → (after.out.device ≡ before.out.device) × (err'.device ≡ err.device)
-devices_obeyed line before after err err' status (inl done) = (performed_device done.1.0 before after (Ok tt) done.1.2, ap (λ (p : Paper). p.device) done.3)
+devices_obeyed line before after err err' status (inl done) = (performed_device done.0.0 before after (Ok tt) done.0.2, ap (λ (p : Paper). p.device) done.3)
 devices_obeyed line before after err err' status (inr (one, refusal, does, printed)) = (performed_device does.0 before after (Err refusal) does.2, printed_device (line_bytes refusal) err err' printed)
 
 pub devices_replied : (words : List Text) (out out' err err' : Paper) (status : ℕ) → Replies words out out' err err' status → (out'.device ≡ out.device) × (err'.device ≡ err.device)

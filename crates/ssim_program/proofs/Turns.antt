@@ -188,6 +188,10 @@ brings_more (office.TookSome desk names receipts) read less more r m each (inl b
 brings_more (office.TookSome desk names receipts) read less more r m each (inr s) = inr s
 brings_more (office.Merged mine theirs) read less more r m each (inl b) = inl (each mine b)
 brings_more (office.Merged mine theirs) read less more r m each (inr b) = inr (each theirs b)
+brings_more (office.MergedSince since mine theirs) read less more r m each (inl b) =
+    inl (each mine b.0, λ held. each theirs (b.1 held))
+brings_more (office.MergedSince since mine theirs) read less more r m each (inr b) =
+    inr (each theirs b.0, λ held. each mine (b.1 held))
 brings_more (office.Carried mine theirs) read less more r m each (inl b) = inl (each mine b)
 brings_more (office.Carried mine theirs) read less more r m each (inr b) = inr (each theirs b.0, b.1)
 brings_more (office.Withdrew desk references) read less more r m each b = (each desk b.0, b.1)
@@ -214,6 +218,16 @@ brings_read (office.Merged mine theirs) read file desk less more r m c same each
     inl (each mine c.0 c.3 b)
 brings_read (office.Merged mine theirs) read file desk less more r m c same each (inr b) =
     inr (each theirs c.1 c.4 b)
+brings_read (office.MergedSince since mine theirs) read file desk less more r m c same each (inl b) =
+    inl (
+      each mine c.1.mine c.1.here b.0,
+      λ held. each theirs c.1.theirs c.1.there (b.1 held),
+    )
+brings_read (office.MergedSince since mine theirs) read file desk less more r m c same each (inr b) =
+    inr (
+      each theirs c.1.theirs c.1.there b.0,
+      λ held. each mine c.1.mine c.1.here (b.1 held),
+    )
 brings_read (office.Carried mine theirs) read file desk less more r m c same each (inl b) =
     inl (each mine c.0 c.4 b)
 brings_read (office.Carried mine theirs) read file desk less more r m c same each (inr b) =
@@ -248,6 +262,7 @@ leaves_brings (office.Merged mine theirs) name brought read r m (inl same) b =
     inl (own name mine brought read r m same b)
 leaves_brings (office.Merged mine theirs) name brought read r m (inr same) b =
     inr (own name theirs brought read r m same b)
+leaves_brings (office.MergedSince since mine theirs) name brought read r m leaves b = absurd leaves
 leaves_brings (office.Carried mine theirs) name brought read r m leaves b =
     inl (own name mine brought read r m leaves b)
 leaves_brings (office.Withdrew desk references) name brought read r m leaves b =

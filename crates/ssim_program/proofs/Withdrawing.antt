@@ -39,14 +39,14 @@ removed_at : (held : HeldMessages) (x r : Reference) (m : MessageValue) (b : Boo
 removed_at held x r m true e h = absurd (let never : None ≡ Some m = h in cc)
 removed_at held x r m false e h = (h, λ same. let equal = ap (λ (y : Reference). eq_by_cmp reference_cmp r y) (sym same) ∙ ap is_eq (self_equal r) in let clash : true ≡ false = sym equal ∙ e in cc)
 
-removed : (held : HeldMessages) (x r : Reference) (m : MessageValue) → get (remove held x) r ≡ Some m → (get held r ≡ Some m) × (r ≢ x)
+pub removed : (held : HeldMessages) (x r : Reference) (m : MessageValue) → get (remove held x) r ≡ Some m → (get held r ≡ Some m) × (r ≢ x)
 removed held x r m h = removed_at held x r m (eq_by_cmp reference_cmp r x) refl (sym (get-remove reference_total held x r) ∙ h)
 
 still_at : (held : HeldMessages) (x r : Reference) (m : MessageValue) (b : Bool) → eq_by_cmp reference_cmp r x ≡ b → get held r ≡ Some m → r ≢ x → cond b None (get held r) ≡ Some m
 still_at held x r m true e h apart = absurd (apart (equal_at r x e))
 still_at held x r m false e h apart = h
 
-still : (held : HeldMessages) (x r : Reference) (m : MessageValue) → get held r ≡ Some m → r ≢ x → get (remove held x) r ≡ Some m
+pub still : (held : HeldMessages) (x r : Reference) (m : MessageValue) → get held r ≡ Some m → r ≢ x → get (remove held x) r ≡ Some m
 still held x r m h apart = get-remove reference_total held x r ∙ still_at held x r m (eq_by_cmp reference_cmp r x) refl h apart
 
 module _ (one : OneReference) where

@@ -1,6 +1,7 @@
 -- What each command does, by the files: one equation a command.
 use Rattle.std.specs.Prelude.{◌≡◌, ℕ, Bool, true, List, [], ◌∷◌, ◌++◌, length, map, slice_range}
-use Rattle.std.specs.Prelude.{Option, None, Some, Ok, Err, if◌then◌else◌}
+use Rattle.std.specs.Prelude.{Option, None, Some, Ok, Err, ◌&&◌, if◌then◌else◌}
+use Rattle.std.specs.List.{flat_map}
 use Rattle.ssim_values.specs.Station.{is_station}
 use Rattle.ssim_values.specs.Flight.{FlightNumber}
 use Rattle.ssim_values.specs.declared.fault.Fault.TheVariants as value_fault
@@ -12,7 +13,7 @@ use Rattle.ssim_schedule.specs.FlightPieces.{Divided, divided_among, divided_fli
 use Rattle.ssim_words.specs.Date.{typed_day}
 use Rattle.ssim_words.specs.Typed.{typed}
 use Rattle.ssim_held.specs.Entries.{AreRising, DeskSeen}
-use Rattle.ssim_held.specs.File.{desk_file}
+use Rattle.ssim_held.specs.File.{desk_file, row_line}
 use Rattle.ssim_held.specs.declared.fault.DeskFault.TheVariants as desk_fault
 use Rattle.ssim_desk.specs.DateSteps.{steps_on}
 use Rattle.ssim_desk.specs.Desk.{days_of_desk, finding_lines, timetable_of}
@@ -24,18 +25,19 @@ use Rattle.ssim_outbox.specs.declared.fault.OutboxFault.{OutboxFault}
 use Rattle.ssim_parts.specs.Chosen.{chosen_days}
 use Rattle.ssim_page.specs.Page.{whole_page}
 use Rattle.ssim_page.specs.declared.heading.PageHeading.{PageHeading}
+use Rattle.ssim_overview.specs.SaidRows.{said_rows}
 use Rattle.ssim_command_line.specs.Line.{Line, Text, Check, Problems, Tidy, Start, Take, Merge}
 use Rattle.ssim_command_line.specs.Line.{Withdraw}
 use Rattle.ssim_command_line.specs.Line.{Carry, ChoiceTexts, SpanTexts}
 use Rattle.ssim_command_line.specs.Line.{Receive, Texts, Show, History, Calendar, Findings, Export}
 use Rattle.ssim_command_line.specs.Line.{Rehearse, Explain, Page, Board, Diff, Publish, Listing}
-use Rattle.ssim_command_line.specs.Line.{Convert, Info, Select, Split}
+use Rattle.ssim_command_line.specs.Line.{Convert, Info, Select, Split, Stations}
 use Rattle.ssim_command_line.specs.declared.board_form.BoardForm.{BoardForm}
 use Rattle.ssim_command_line.specs.declared.command_line.FindingsForm.{FindingsForm}
 use Rattle.ssim_command_line.specs.declared.command_line.DiffForm.{DiffForm}
 use Rattle.ssim_command_line.specs.declared.command_line.ListForm.{ListForm}
 use Rattle.ssim_command_line.specs.declared.command_line.ModeWord.{ModeWord}
-use Rattle.ssim_program.specs.Acts.{Act, Print, Keep, prints, prints_then}
+use Rattle.ssim_program.specs.Acts.{Act, Print, Keep, found_then, prints, prints_then, reports}
 use Rattle.ssim_program.specs.Carrying.{AreOfOneAirline, carried}
 use Rattle.ssim_program.specs.Converting.{converted, mode_named}
 use Rattle.ssim_program.specs.Exports.{ReadsAsItself, export_in}
@@ -45,20 +47,21 @@ use Rattle.ssim_program.specs.Desks.{desk_in, held_line, merged, text_taken}
 use Rattle.ssim_program.specs.Explained.{Explains, RefusesExplain}
 use Rattle.ssim_program.specs.Files.{Files}
 use Rattle.ssim_program.specs.Made.{AreLinesOn, base_in, data_set_in, problem_lines, problems_in}
-use Rattle.ssim_program.specs.Made.{problem_rows}
+use Rattle.ssim_program.specs.Made.{has_problem, problem_rows}
 use Rattle.ssim_program.specs.Messages.{flights_on, message_texts, messages_on}
 use Rattle.ssim_program.specs.Places.{place_in}
 use Rattle.ssim_program.specs.Splitting.{split}
 use Rattle.ssim_program.specs.Spans.{dates_alone, has_end, lines_found}
-use Rattle.ssim_program.specs.Receiving.{places_in, receipt_lines, received, received_files}
+use Rattle.ssim_program.specs.Receiving.{any_refused, places_in, receipt_lines, received, received_files}
 use Rattle.ssim_program.specs.Timetables.{carrier_of, known_in, shown_in, timetable_in}
+use Rattle.ssim_program.specs.MergingSince.{IsOver, merged_since, older_in}
 use Rattle.ssim_program.specs.Withdrawing.{withdrawn}
 use Rattle.ssim_program.specs.rehearse.Rehearsal.{RehearsesFiles, RefusesLines}
 use Rattle.ssim_program.specs.print.Blocks.{blocks}
 use Rattle.ssim_program.specs.print.Board.{printed_board}
 use Rattle.ssim_program.specs.print.Calendar.{calendars}
 use Rattle.ssim_program.specs.print.Info.{info_lines}
-use Rattle.ssim_program.specs.print.Difference.{printed_difference}
+use Rattle.ssim_program.specs.print.Difference.{reported_difference}
 use Rattle.ssim_program.specs.print.Listing.{printed_list}
 use Rattle.ssim_program.specs.print.Page.{message_articles}
 use Rattle.ssim_program.specs.print.Shown.{findings_lines, history_on, shown_on}
@@ -73,11 +76,11 @@ check files name = do
   set ← data_set_in files name
   Finds (AreLinesOn set.0 set.1)
 
--- a line for each invalid record, and their number; or a row of CSV for each
-abbrev pub problems : Option Files → Bool → Text → Answer (List ℕ)
+-- a line for each invalid record, and their number, or a row of CSV for each; and whether there is one
+abbrev pub problems : Option Files → Bool → Text → Answer (List ℕ × Bool)
 problems files csv name = do
   found ← problems_in files name
-  Gives (if csv then problem_rows found else problem_lines found)
+  Gives (if csv then problem_rows found else problem_lines found, has_problem found)
 
 -- the canonical export of a data set
 abbrev pub tidy : Option Files → Text → Answer (List Act)
@@ -111,12 +114,14 @@ take files file out names = do
   take_each files out names desk
 
 -- The desk in a file tries the texts of mailboxes. The line of each is printed, the refused texts
--- are kept, if a name is given, and then the desk.
-abbrev pub receive : Option Files → Option Text → Text → Text → List Text → Answer (List Act)
-receive files refused file out names = do
+-- are kept, if a name is given, and then the desk. If the words ask for the status, it says whether
+-- there are refused texts or files that were not read.
+abbrev pub receive : Option Files → Option Text → Bool → Text → Text → List Text → Answer (List Act)
+receive files refused status file out names = do
   places ← places_in files refused file out names
   result ← received files file names
-  Gives (Print (receipt_lines result.0) ∷ received_files refused out result.0 result.1)
+  Gives (found_then (status && any_refused result.0)
+      (Print (receipt_lines result.0) ∷ received_files refused out result.0 result.1))
 
 -- A desk that holds what two desks hold, in order of reference, and the number of its messages.
 abbrev pub merge : Option Files → Text → Text → Text → Answer (List Act)
@@ -127,6 +132,24 @@ merge files file other out = do
   after ← merged mine theirs
   Known (AreRising after.held)
       (Keep out (desk_file after.base after.held) ∷ Print (held_line (length after.held)) ∷ [])
+
+-- A desk that holds what two desks hold, without what one of them has withdrawn since an older one,
+-- and the number of its messages. The older one has the base of both (else 61).
+abbrev pub merge_since : Option Files → Text → Text → Text → Text → Answer (List Act)
+merge_since files since file other out = do
+  place ← place_in files out kind.DeskFile
+  old ← older_in files since
+  mine ← desk_in files file
+  theirs ← desk_in files other
+  one ← Require (IsOver old mine) (refused.Desk desk_fault.OtherBase)
+  after ← merged_since old mine theirs
+  Known (AreRising after.held)
+      (Keep out (desk_file after.base after.held) ∷ Print (held_line (length after.held)) ∷ [])
+
+-- one of the two, by whether an older desk is named
+abbrev pub merge_either : Option Files → Option Text → Text → Text → Text → Answer (List Act)
+merge_either files None file other out = merge files file other out
+merge_either files (Some since) file other out = merge_since files since file other out
 
 -- A desk that holds what it held and those messages of another that mean the same in it, and what
 -- became of each. The data sets are of one airline and one time mode (else 61).
@@ -248,6 +271,12 @@ info files file = do
   carrier ← carrier_of known.1.base.records
   Gives (info_lines known.0 carrier known.1)
 
+-- the station table that the legs of a file say, with a line for each row as a desk file has it
+abbrev pub stations : Option Files → Text → Answer (List ℕ)
+stations files file = do
+  desk ← timetable_in files file
+  Gives (flat_map row_line (said_rows (timetable_of desk)))
+
 -- the airline, the season in columns 11 to 13, and the time mode of a carrier record
 abbrev pub heading_of : CarrierFields → PageHeading
 heading_of r = record {
@@ -264,19 +293,21 @@ compared mine theirs (Err why) =
     (fault : OutboxFault) × RefusesCarriers mine theirs fault × (why ≡ refused.Publication fault)
 
 -- on which of the chosen dates the second desk differs from the first: those of which the itinerary of
--- one of the two is chosen
-abbrev pub differences : DiffForm → ChoiceTexts → List Text → DeskSeen → DeskSeen → Answer (List ℕ)
+-- one of the two is chosen; and whether there is such a date
+abbrev pub differences : DiffForm → ChoiceTexts → List Text → DeskSeen → DeskSeen
+    → Answer (List ℕ × Bool)
 differences form words flights old new = do
   mine ← carrier_of old.base.records
   theirs ← carrier_of new.base.records
   same ← compared mine theirs
   choice ← choice_in mine.airline words flights
-  Gives (printed_difference form mine.airline
+  Gives (reported_difference form mine.airline
       (chosen_side choice (days_of_desk old) (days_of_desk new) (days_of_desk old))
       (chosen_side choice (days_of_desk old) (days_of_desk new) (days_of_desk new)))
 
--- on which of the chosen dates two timetables differ, in a form
-abbrev pub diff : Option Files → DiffForm → ChoiceTexts → Text → Text → List Text → Answer (List ℕ)
+-- on which of the chosen dates two timetables differ, in a form, and whether they differ
+abbrev pub diff : Option Files → DiffForm → ChoiceTexts → Text → Text → List Text
+    → Answer (List ℕ × Bool)
 diff files form words from to flights = do
   old ← timetable_in files from
   new ← timetable_in files to
@@ -333,9 +364,10 @@ rehearse files dataset stations script (Ok lines) =
     RehearsesFiles files dataset stations script lines
 rehearse files dataset stations script (Err why) = RefusesLines files dataset stations script why
 
--- an explanation of the refusals of a number or a name, or of what is invalid in a file
-abbrev pub explain : Option Files → Text → Answer (List ℕ)
-explain files word (Ok lines) = Explains files word lines
+-- an explanation of the refusals of a number or a name, or of what is invalid in a file; and whether
+-- something is
+abbrev pub explain : Option Files → Text → Answer (List ℕ × Bool)
+explain files word (Ok report) = Explains files word report.0 report.1
 explain files word (Err why) = RefusesExplain files word why
 
 -- ---- all
@@ -343,12 +375,13 @@ explain files word (Err why) = RefusesExplain files word why
 -- what each command does
 abbrev pub answers : Line → Option Files → Answer (List Act)
 answers (Check name) files = prints (check files name)
-answers (Problems csv name) files = prints (problems files csv name)
+answers (Problems form name) files = reports form.status (problems files form.csv name)
 answers (Tidy name) files = tidy files name
 answers (Start dataset stations out) files = start files dataset stations out
 answers (Take file out names) files = take files file out names
-answers (Receive refused file out names) files = receive files refused file out names
-answers (Merge file other out) files = merge files file other out
+answers (Receive refused status file out names) files =
+    receive files refused status file out names
+answers (Merge since file other out) files = merge_either files since file other out
 answers (Carry file other out) files = carry files file other out
 answers (Withdraw file out references) files = withdraw files file out references
 answers (Texts span file flights) files = prints (texts files span file flights)
@@ -358,8 +391,10 @@ answers (Board form file station date) files = prints (board files form file sta
 answers (Listing form words file flights) files = prints (list files form words file flights)
 answers (Calendar words file flights) files = prints (calendar files words file flights)
 answers (Info file) files = prints (info files file)
+answers (Stations file) files = prints (stations files file)
 answers (Page from file) files = prints (page files from file)
-answers (Diff form words from to flights) files = prints (diff files form words from to flights)
+answers (Diff form words from to flights) files =
+    reports form.status (diff files form words from to flights)
 answers (Publish from to reference out) files = publish files from to reference out
 answers (Findings form span file flights) files =
     prints (findings files form span file flights)
@@ -368,4 +403,4 @@ answers (Select choice file flights) files = select files choice file flights
 answers (Convert mode file out) files = convert files mode file out
 answers (Split dataset prefix) files = split files dataset prefix
 answers (Rehearse dataset stations script) files = prints (rehearse files dataset stations script)
-answers (Explain word) files = prints (explain files word)
+answers (Explain status word) files = reports status (explain files word)

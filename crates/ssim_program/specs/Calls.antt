@@ -1,5 +1,5 @@
 -- Calls of the program, each of which is one event of a history.
-use Rattle.std.specs.Prelude.{◌≡◌, ◌⊎◌, ℕ, List, [], ◌∷◌, Option, Some, Result}
+use Rattle.std.specs.Prelude.{◌≡◌, ◌⊎◌, ℕ, List, [], ◌∷◌, Option, None, Some, Result}
 use Rattle.ssim_command_line.specs.Line.{Line, Text, Start, Take, Receive, Merge, Carry, Withdraw}
 use Rattle.ssim_command_line.specs.Line.{Convert, Publish, Split}
 use Rattle.ssim_command_line.specs.Usage.{Names}
@@ -7,7 +7,7 @@ use Rattle.ssim_program.specs.Answers.{answers}
 use Rattle.ssim_program.specs.Files.{Files, Kept}
 use Rattle.ssim_program.specs.Offices.{Event, Happened, History, Leaves, Then, files_of}
 use Rattle.ssim_program.specs.Offices.{StartKept, TakeKept, ReceiveKept, MergeKept, WithdrawKept}
-use Rattle.ssim_program.specs.Offices.{CarryKept, Unchanged, Came, AllCame}
+use Rattle.ssim_program.specs.Offices.{MergeSinceKept, CarryKept, Unchanged, Came, AllCame}
 use Rattle.ssim_program.specs.Receiving.{Receipt}
 use Rattle.ssim_program.specs.World.{Does, World}
 use Rattle.ssim_program.specs.declared.refusal.Refusal.{Refusal}
@@ -18,10 +18,12 @@ use Rattle.ssim_program.specs.declared.refusal.Refusal.{Refusal}
 abbrev pub IsEventOf : Line → Event → Type 0
 IsEventOf (Start dataset stations out) event = event ≡ StartKept dataset stations out
 IsEventOf (Take desk out texts) event = event ≡ TakeKept desk out texts
-IsEventOf (Receive refused desk out names) event =
+IsEventOf (Receive refused status desk out names) event =
     ((receipts : List Receipt) × (event ≡ ReceiveKept refused desk out names receipts))
     ⊎ ((name : Text) × (texts : List ℕ) × (refused ≡ Some name) × (event ≡ Came name texts))
-IsEventOf (Merge mine theirs out) event = event ≡ MergeKept mine theirs out
+IsEventOf (Merge None mine theirs out) event = event ≡ MergeKept mine theirs out
+IsEventOf (Merge (Some since) mine theirs out) event =
+    event ≡ MergeSinceKept since mine theirs out
 IsEventOf (Carry mine theirs out) event = event ≡ CarryKept mine theirs out
 IsEventOf (Withdraw desk out references) event = event ≡ WithdrawKept desk out references
 IsEventOf (Publish from to reference out) event = (mail : List ℕ) × (event ≡ Came out mail)

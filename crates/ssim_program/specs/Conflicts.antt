@@ -9,7 +9,7 @@ use Rattle.ssim_held.specs.Held.{Holds, Says}
 use Rattle.ssim_held.specs.declared.fault.DeskFault.TheVariants as desk_fault
 use Rattle.ssim_command_line.specs.Line.{Text}
 use Rattle.ssim_program.specs.Acts.{Act, Acts, Stop}
-use Rattle.ssim_program.specs.Answers.{carry, merge, take}
+use Rattle.ssim_program.specs.Answers.{carry, merge, merge_since, take}
 use Rattle.ssim_program.specs.Desks.{desk_in}
 use Rattle.ssim_program.specs.Files.{Files}
 use Rattle.ssim_program.specs.Offices.{IsSaid}
@@ -45,6 +45,16 @@ abbrev pub MergeMeetsTwo : Type 0
 MergeMeetsTwo =
     (files : Files) (mine theirs out : Text) (reference : Reference)
     → merge (Some files) mine theirs out (Err (conflict reference))
+    → (one : DeskSeen) × (other : DeskSeen) × desk_in (Some files) mine (Ok one)
+    × desk_in (Some files) theirs (Ok other)
+    × HasTwo (λ m. Holds (state_of one) reference m ⊎ Holds (state_of other) reference m)
+
+-- If `merge --since` is refused with 60, two different messages have the reference, of those that its
+-- two desks hold.
+abbrev pub MergeSinceMeetsTwo : Type 0
+MergeSinceMeetsTwo =
+    (files : Files) (since mine theirs out : Text) (reference : Reference)
+    → merge_since (Some files) since mine theirs out (Err (conflict reference))
     → (one : DeskSeen) × (other : DeskSeen) × desk_in (Some files) mine (Ok one)
     × desk_in (Some files) theirs (Ok other)
     × HasTwo (λ m. Holds (state_of one) reference m ⊎ Holds (state_of other) reference m)

@@ -177,12 +177,13 @@ told_as None bytes =
     else (if may_be_mail (kind_of bytes) && is_mail bytes then AsForeign foreign.Mail
     else AsRefused)
 
--- the text begins with the name of another program's files, with the counts of a mailbox, or else
--- it explains the refusal
-abbrev pub TellsInvalid : Told → List ℕ → Refusal → List ℕ → Type 0
-TellsInvalid (AsForeign kind) bytes refusal printed = BeginsWithForeign kind printed
-TellsInvalid AsMailbox bytes refusal printed = BeginsWithMailbox bytes printed
-TellsInvalid AsRefused bytes refusal printed = BeginsWith refusal printed
+-- The text begins with the name of another program's files, with the counts of a mailbox, or else
+-- it explains the refusal. Something is found, but of a mailbox only if a text of it is no message.
+abbrev pub TellsInvalid : Told → List ℕ → Refusal → List ℕ → Bool → Type 0
+TellsInvalid (AsForeign kind) bytes refusal printed found =
+    BeginsWithForeign kind printed × (found ≡ true)
+TellsInvalid AsMailbox bytes refusal printed found = BeginsWithMailbox bytes printed found
+TellsInvalid AsRefused bytes refusal printed found = BeginsWith refusal printed × (found ≡ true)
 
 -- the name of a kind of file
 abbrev pub kind_name : FileKind → List ℕ
@@ -193,29 +194,34 @@ kind_name kind.Message = codes "text"
 kind_name kind.Stations = codes "station table"
 
 -- The text says that the file is invalid: of which kind of another program it is, how many texts the
--- mailbox has, or which refusal it has. Or it says that the file is valid, and of which kind it is.
-abbrev pub ExplainsBytes : List ℕ → List ℕ → Type 0
-ExplainsBytes bytes printed =
+-- mailbox has, or which refusal it has. Or it says that the file is valid, and of which kind it is,
+-- and then nothing is found.
+abbrev pub ExplainsBytes : List ℕ → List ℕ → Bool → Type 0
+ExplainsBytes bytes printed found =
     ((refusal : Refusal) × IsInvalid (kind_of bytes) bytes refusal
-    × TellsInvalid (told_as (foreign_kind bytes) bytes) bytes refusal printed)
+    × TellsInvalid (told_as (foreign_kind bytes) bytes) bytes refusal printed found)
     ⊎ (IsValid (kind_of bytes) bytes
-    × (printed ≡ line (codes "valid " ++ kind_name (kind_of bytes))))
+    × (printed ≡ line (codes "valid " ++ kind_name (kind_of bytes))) × (found ≡ false))
 
 -- the lines explain the bytes of a named file
-abbrev pub ExplainsFile : Option Files → Text → List ℕ → Type 0
-ExplainsFile files name printed =
-    (bytes : List ℕ) × HasFile files name bytes × ExplainsBytes bytes printed
+abbrev pub ExplainsFile : Option Files → Text → List ℕ → Bool → Type 0
+ExplainsFile files name printed found =
+    (bytes : List ℕ) × HasFile files name bytes × ExplainsBytes bytes printed found
 
--- the lines explain a file or, if there is no such file within the limit, a refusal by its name
-abbrev pub ExplainsWord : Option Files → Text → List ℕ → Type 0
-ExplainsWord files word printed =
-    ExplainsFile files word printed ⊎ (IsMissing files word × ExplainsName word printed)
+-- The lines explain a file or, if there is no such file within the limit, a refusal by its name. Of a
+-- name nothing is found.
+abbrev pub ExplainsWord : Option Files → Text → List ℕ → Bool → Type 0
+ExplainsWord files word printed found =
+    ExplainsFile files word printed found
+    ⊎ (IsMissing files word × ExplainsName word printed × (found ≡ false))
 
--- the lines explain a fault's number or, if the word is no number, a file or a name
-abbrev pub Explains : Option Files → Text → List ℕ → Type 0
-Explains files word printed =
-    ((number : ℕ) × (number_in word ≡ Some number) × ExplainsNumber number printed)
-    ⊎ ((number_in word ≡ None) × ExplainsWord files word printed)
+-- The lines explain a fault's number or, if the word is no number, a file or a name. Of a number
+-- nothing is found.
+abbrev pub Explains : Option Files → Text → List ℕ → Bool → Type 0
+Explains files word printed found =
+    ((number : ℕ) × (number_in word ≡ Some number) × ExplainsNumber number printed
+    × (found ≡ false))
+    ⊎ ((number_in word ≡ None) × ExplainsWord files word printed found)
 
 -- Why a word that is no number is not explained: memory ran out. Or there is no file of this name
 -- within the limit, and the word names no refusal.

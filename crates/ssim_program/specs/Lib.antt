@@ -11,6 +11,7 @@ pub mod Messages
 pub mod FirstProblem
 pub mod Choices
 pub mod Spans
+pub mod MergingSince
 pub mod Withdrawing
 pub mod Carrying
 pub mod Receiving

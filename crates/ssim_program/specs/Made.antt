@@ -1,6 +1,6 @@
 -- What is read of files, and what the commands make from a data set.
 use Rattle.std.specs.Prelude.{◌≡◌, ◌⊎◌, ℕ, ◌<◌, ◌≤◌, IfSome, List, ◌++◌, codes, length, Option}
-use Rattle.std.specs.Prelude.{◌∷◌, Some, Ok, Err}
+use Rattle.std.specs.Prelude.{◌∷◌, Bool, Some, Ok, Err, nat_lt}
 use Rattle.std.specs.Fmt.{decimal}
 use Rattle.std.specs.List.{flat_map}
 use Rattle.ssim_values.specs.Flight.{FlightNumber}
@@ -86,6 +86,10 @@ abbrev pub problem_row : BaseFault → List ℕ
 problem_row fault =
     line (decimal (base_fault_number fault) ++ 44 ∷ base_fault_name fault ++ 44
     ∷ place_fields (base_fault_place fault))
+
+-- whether there is a problem
+abbrev pub has_problem : Problems → Bool
+has_problem problems = nat_lt 0 (length problems.faults.items)
 
 -- a row of names, and a row for each problem, in order
 abbrev pub problem_rows : Problems → List ℕ

@@ -64,8 +64,14 @@ mailbox_text tried =
     codes "mailbox texts " ++ decimal (length tried) ++ codes " refused "
     ++ decimal (count_by (λ t. is_some t.1) tried)
 
--- the text begins with the line that counts the texts of a mailbox, each of which is tried
-abbrev pub BeginsWithMailbox : List ℕ → List ℕ → Type 0
-BeginsWithMailbox bytes printed = (tried : List (MailText × Option TextFault))
+-- whether one of the texts is no message
+abbrev pub any_is_none : List (MailText × Option TextFault) → Bool
+any_is_none tried = nat_lt 0 (count_by (λ t. is_some t.1) tried)
+
+-- the text begins with the line that counts the texts of a mailbox, each of which is tried; something
+-- is found if one of them is no message
+abbrev pub BeginsWithMailbox : List ℕ → List ℕ → Bool → Type 0
+BeginsWithMailbox bytes printed found = (tried : List (MailText × Option TextFault))
     × (map (λ t. t.0) tried ≡ texts_in bytes) × AllByRecursion IsTried tried
+    × (found ≡ any_is_none tried)
     × (rest : List ℕ) × (printed ≡ line (mailbox_text tried) ++ rest)

@@ -15,7 +15,7 @@ use Rattle.ssim_held.specs.Held.{Holds, Says}
 use Rattle.ssim_program.specs.Desks.{desk_in}
 use Rattle.ssim_program.specs.Acts.{Act, is_whole, kept_by, printed_by}
 use Rattle.ssim_program.specs.Answer.{Answer}
-use Rattle.ssim_program.specs.Answers.{answers, carry, merge, start, take, withdraw}
+use Rattle.ssim_program.specs.Answers.{answers, carry, merge, merge_since, start, take, withdraw}
 use Rattle.ssim_program.specs.Carrying.{MeansTheSame}
 use Rattle.ssim_program.specs.Files.{Files, Kept, file_of, with_kept}
 use Rattle.ssim_command_line.specs.Line.{Line, Text}
@@ -38,6 +38,7 @@ pub data Event : Type 0 where
   ReceiveKept : (refused : Option Text) (desk out : Text) (names : List Text)
       (receipts : List Receipt) → Event
   MergeKept : (mine theirs out : Text) → Event
+  MergeSinceKept : (since mine theirs out : Text) → Event
   CarryKept : (mine theirs out : Text) → Event
   WithdrawKept : (desk out : Text) (references : List Text) → Event
   Unchanged : Event
@@ -75,6 +76,8 @@ Leaves (TakeKept desk out texts) old new = IsDone (take (Some old) desk out text
 Leaves (ReceiveKept refused desk out names receipts) old new =
     IsReceived refused desk out names receipts old new
 Leaves (MergeKept mine theirs out) old new = IsDone (merge (Some old) mine theirs out) old new
+Leaves (MergeSinceKept since mine theirs out) old new =
+    IsDone (merge_since (Some old) since mine theirs out) old new
 Leaves (CarryKept mine theirs out) old new = IsDone (carry (Some old) mine theirs out) old new
 Leaves (WithdrawKept desk out references) old new =
     IsDone (withdraw (Some old) desk out references) old new
@@ -93,14 +96,15 @@ Happened (Then history event files) = Happened history × Leaves event (files_of
 
 -- The file of a name after an event: it is the file of some name before; `start` made it of a data
 -- set and a station table; `take` of a desk file and texts; `receive` of a desk file and those
--- texts of mailboxes that have such receipts; `merge` or `carry` of two desk files; `withdraw` of a
--- desk file and references; or it came from elsewhere.
+-- texts of mailboxes that have such receipts; `merge` or `carry` of two desk files; `merge --since` of
+-- an older desk file and two; `withdraw` of a desk file and references; or it came from elsewhere.
 pub data Origin : Type 0 where
   Was : Text → Origin
   Started : Text → Text → Origin
   Took : Text → List Text → Origin
   TookSome : Text → List Text → List Receipt → Origin
   Merged : Text → Text → Origin
+  MergedSince : (since mine theirs : Text) → Origin
   Carried : Text → Text → Origin
   Withdrew : Text → List Text → Origin
   Given : List ℕ → Origin
@@ -126,6 +130,8 @@ origin_of (TakeKept desk out texts) name =
     if bytes_eq out name then Took desk texts else Was name
 origin_of (MergeKept mine theirs out) name =
     if bytes_eq out name then Merged mine theirs else Was name
+origin_of (MergeSinceKept since mine theirs out) name =
+    if bytes_eq out name then MergedSince since mine theirs else Was name
 origin_of (CarryKept mine theirs out) name =
     if bytes_eq out name then Carried mine theirs else Was name
 origin_of (WithdrawKept desk out references) name =
@@ -172,16 +178,22 @@ MeansTheSameIn files mine theirs message =
     (one : DeskSeen) × (other : DeskSeen) × desk_in (Some files) mine (Ok one)
     × desk_in (Some files) theirs (Ok other) × MeansTheSame one.base other.base message
 
+-- the desk in the file of this name holds the message
+abbrev pub IsHeldIn : Files → Text → Reference → MessageValue → Type 0
+IsHeldIn files name reference message = (desk : DeskSeen) × desk_in (Some files) name (Ok desk)
+    × Holds (state_of desk) reference message
+
 -- which messages, each under its reference, were brought to the files of which names
 abbrev pub Bringing : Type 1
 Bringing = Text → Reference → MessageValue → Type 0
 
 -- what was brought to a file, by where it comes from: to a new desk nothing; to one that took texts
 -- what they say and what was brought to it before, and so to one that received texts what those say
--- that it accepted; to a merged one what was brought to both; to one to which messages were carried
--- what was brought to it before, and of what was brought to the other what means the same; to one
--- without the messages of some references all others that were brought to it before; and to one that
--- came from elsewhere what it holds
+-- that it accepted; to a merged one what was brought to one of two, and if it was merged since an
+-- older one, only what was brought to both or is not in the older one; to one to which messages were
+-- carried what was brought to it before, and of what was brought to the other what means the same; to
+-- one without the messages of some references all others that were brought to it before; and to one
+-- that came from elsewhere what it holds
 abbrev pub BroughtBy : Origin → Files → Bringing → Reference → MessageValue → Type 0
 BroughtBy (Was name) files before reference message = before name reference message
 BroughtBy (Started dataset stations) files before reference message = ⊥
@@ -191,6 +203,11 @@ BroughtBy (TookSome desk names receipts) files before reference message =
     before desk reference message ⊎ IsAcceptedBy files desk names receipts reference message
 BroughtBy (Merged mine theirs) files before reference message =
     before mine reference message ⊎ before theirs reference message
+BroughtBy (MergedSince since mine theirs) files before reference message =
+    (before mine reference message
+    × (IsHeldIn files since reference message → before theirs reference message))
+    ⊎ (before theirs reference message
+    × (IsHeldIn files since reference message → before mine reference message))
 BroughtBy (Carried mine theirs) files before reference message =
     before mine reference message
     ⊎ (before theirs reference message × MeansTheSameIn files mine theirs message)
@@ -230,6 +247,7 @@ BeganBy (Started data_file table_file) files before dataset stations =
 BeganBy (Took desk texts) files before dataset stations = before desk dataset stations
 BeganBy (TookSome desk names receipts) files before dataset stations = before desk dataset stations
 BeganBy (Merged mine theirs) files before dataset stations = before mine dataset stations
+BeganBy (MergedSince since mine theirs) files before dataset stations = before mine dataset stations
 BeganBy (Carried mine theirs) files before dataset stations = before mine dataset stations
 BeganBy (Withdrew desk references) files before dataset stations = before desk dataset stations
 BeganBy (Given bytes) files before dataset stations = IsSavedFrom bytes dataset stations

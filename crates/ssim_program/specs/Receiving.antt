@@ -2,7 +2,7 @@
 -- them.
 use Rattle.std.specs.Prelude.{◌≡◌, ◌⊎◌, ℕ, ◌+◌, ◌-◌, Bool, true, false, IfSome, List, [], ◌∷◌, ◌++◌}
 use Rattle.std.specs.Prelude.{Option}
-use Rattle.std.specs.Prelude.{Some, None, Ok, Err, codes, length, nat_le, if◌then◌else◌}
+use Rattle.std.specs.Prelude.{Some, None, Ok, Err, codes, length, nat_le, nat_lt, if◌then◌else◌}
 use Rattle.std.specs.Fmt.{decimal}
 use Rattle.std.specs.List.{count_by, flat_map, list_any}
 use Rattle.std.specs.Str.{bytes_eq}
@@ -140,6 +140,10 @@ is_repeated _ = false
 abbrev pub is_refused : Receipt → Bool
 is_refused (Accepted file n answer reference) = false
 is_refused _ = true
+
+-- whether some text was refused, or some file was not read
+abbrev pub any_refused : List Receipt → Bool
+any_refused receipts = nat_lt 0 (count_by is_refused receipts)
 
 -- the last line, without its end: how many were taken, repeated and refused
 abbrev pub total_text : ℕ → ℕ → ℕ → List ℕ

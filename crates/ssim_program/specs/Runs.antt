@@ -2,6 +2,7 @@
 use Rattle.std.specs.Prelude.{◌≡◌, ◌⊎◌, ℕ, true, false, List, [], Ok, Err}
 use Rattle.ssim_command_line.specs.Line.{Line, Text}
 use Rattle.ssim_command_line.specs.Usage.{HasFault, IsNoCommand, Names}
+use Rattle.ssim_program.specs.Acts.{status_of}
 use Rattle.ssim_program.specs.Again.{PrintsItself}
 use Rattle.ssim_program.specs.Answers.{answers}
 use Rattle.ssim_program.specs.World.{Does, PrintsRefusal, World}
@@ -12,11 +13,12 @@ use Rattle.ssim_program.specs.declared.refusal.Refusal.TheVariants as refused
 
 -- ---- a command
 
--- The status is 0 if a command is done, and `err` is as it was; what `tidy` and `export` print is
--- read as itself. The status is 1 if it is refused, and `err` has taken the line of the refusal.
+-- The status is 0 if a command is done, or 3 if one of its acts says that something was found, and
+-- `err` is as it was; what `tidy` and `export` print is read as itself. The status is 1 if it is
+-- refused, and `err` has taken the line of the refusal.
 abbrev pub Obeys : Line → World → World → Paper → Paper → ℕ → Type 0
 Obeys line before after err err' status =
-    ((status ≡ 0) × Does (answers line before.files) before after (Ok tt)
+    ((done : Does (answers line before.files) before after (Ok tt)) × (status ≡ status_of done.0)
     × PrintsItself line before.out.taken after.out.taken × (err' ≡ err))
     ⊎ ((status ≡ 1) × (refusal : Refusal)
     × Does (answers line before.files) before after (Err refusal) × PrintsRefusal refusal err err')

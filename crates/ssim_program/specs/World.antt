@@ -1,7 +1,7 @@
 -- How the acts of a command meet the store and the printers.
 use Rattle.std.specs.Prelude.{◌≡◌, ◌⊎◌, ℕ, true, List, [], ◌∷◌, Option, Result, Ok, Err}
 use Rattle.ssim_base.specs.Export.{line}
-use Rattle.ssim_program.specs.Acts.{Act, Print, Keep, Stop, Acts}
+use Rattle.ssim_program.specs.Acts.{Act, Print, Keep, Find, Stop, Acts}
 use Rattle.ssim_program.specs.Answer.{Answer}
 use Rattle.ssim_program.specs.Files.{Files, with_kept}
 use Rattle.ssim_program.specs.Places.{RefusesKeep}
@@ -23,7 +23,8 @@ world files failures out = record { files = files; failures = failures; out = ou
 
 -- One act is done, or fails. What is printed is taken whole, and flushed; or a call of `out` fails
 -- (52), and it has taken a prefix. A file is kept, and no other file changes; or it is not kept, and
--- the files are as they were. The store counts a failure exactly if it fails to keep a file (91).
+-- the files are as they were. The store counts a failure exactly if it fails to keep a file (91). To
+-- say something by the status changes nothing, and does not fail.
 abbrev pub Acted : Act → World → World → Result (Unit {0}) Refusal → Type 0
 Acted (Print bytes) before after (Ok x) =
     Grows bytes before.out after.out × (after.out.flushed ≡ true)
@@ -37,6 +38,8 @@ Acted (Keep name bytes) before after (Ok x) =
 Acted (Keep name bytes) before after (Err why) =
     RefusesKeep before.failures after.failures name why
     × (after.files ≡ before.files) × (after.out ≡ before.out)
+Acted Find before after (Ok x) = after ≡ before
+Acted Find before after (Err why) = ⊥
 Acted (Stop refusal) before after (Ok x) = ⊥
 Acted (Stop refusal) before after (Err why) = (why ≡ refusal) × (after ≡ before)
 

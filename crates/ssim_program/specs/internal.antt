@@ -4,6 +4,7 @@ pub mod Program
 pub mod Take
 pub mod Receive
 pub mod Export
+pub mod MergingSince
 pub mod Explain
 pub mod DataSet
 pub mod Rehearse

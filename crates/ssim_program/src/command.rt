@@ -4,7 +4,7 @@ ghost use Rattle.std.specs.Prelude.{◌≡◌, IfOk, IsTrue, List, Option, ℕ};
 ghost use Rattle.ssim_command_line.specs.Line.{line_of};
 ghost use Rattle.ssim_program.specs.Again.{PrintsItself};
 ghost use Rattle.ssim_program.specs.Answers.{answers};
-ghost use Rattle.ssim_program.specs.internal.Program.{AreLines, MadeItself, MakesOr};
+ghost use Rattle.ssim_program.specs.internal.Program.{AreLines, IsReport, MadeItself, MakesOr};
 
 pub(crate) mod board;
 pub(crate) mod calendar;
@@ -21,6 +21,7 @@ pub(crate) mod history;
 pub(crate) mod info;
 pub(crate) mod list;
 pub(crate) mod merge;
+pub(crate) mod merge_since;
 pub(crate) mod named_flights;
 pub(crate) mod page;
 pub(crate) mod problems;
@@ -31,14 +32,16 @@ pub(crate) mod show;
 pub(crate) mod span;
 pub(crate) mod split;
 pub(crate) mod start;
+pub(crate) mod stations;
 pub(crate) mod take;
 pub(crate) mod texts;
 pub(crate) mod tidy;
 pub(crate) mod withdraw;
 
 use crate::command::diff::DiffWords;
+use crate::command::receive::ReceiveWords;
 use crate::explain::explain;
-use crate::made::Made;
+use crate::made::{Made, Report};
 use crate::refusal::Refusal;
 use crate::rehearse::rehearse;
 use crate::store::{Hold, Store};
@@ -51,6 +54,22 @@ fn lines<'r, H: Hold + Drop>(made: Result<Vec<u8>, Refusal>) -> Result<Made<'r, 
 {
     match made {
         Ok(lines) => Ok(Made::Lines(lines)),
+        Err(refusal) => Err(refusal),
+    }
+}
+
+/// A report as what a command has made, whose words ask for the status or not.
+fn reported<'r, H: Hold + Drop>(
+    asked: bool,
+    report: Result<Report, Refusal>,
+) -> Result<Made<'r, H>, Refusal>
+    ensures { IsReport asked report result }
+{
+    match report {
+        Ok(Report { lines, found }) => Ok(Made::Reported {
+            found: asked && found,
+            lines,
+        }),
         Err(refusal) => Err(refusal),
     }
 }
@@ -78,11 +97,24 @@ pub(crate) fn make<'r, S: Store>(
         Request::Take { desk, out, texts } => take::take(alloc, desk, out, texts, store),
         Request::Receive {
             refused,
+            status,
             desk,
             out,
             texts,
-        } => receive::receive(alloc, *refused, desk, out, texts, store),
-        Request::Merge { desk, other, out } => merge::merge(alloc, desk, other, out, store),
+        } => {
+            let words = ReceiveWords {
+                refused: *refused,
+                status: *status,
+                texts,
+            };
+            receive::receive(alloc, &words, desk, out, store)
+        }
+        Request::Merge {
+            since,
+            desk,
+            other,
+            out,
+        } => merge_since::merge_either(alloc, *since, desk, other, out, store),
         Request::Carry { desk, other, out } => carry::carry(alloc, desk, other, out, store),
         Request::Withdraw {
             desk,
@@ -98,9 +130,10 @@ pub(crate) fn make<'r, S: Store>(
         Request::Tidy { dataset } => tidy::tidy(alloc, dataset, store),
         Request::Export { desk } => export::export(alloc, desk, store),
         Request::Check { dataset } => lines(check::check(alloc, dataset, store)),
-        Request::Problems { csv, dataset } => {
-            lines(problems::problems(alloc, *csv, dataset, store))
-        }
+        Request::Problems { form, dataset } => reported(
+            form.status,
+            problems::problems(alloc, form.csv, dataset, store),
+        ),
         Request::Texts {
             span,
             desk,
@@ -134,6 +167,7 @@ pub(crate) fn make<'r, S: Store>(
             flights,
         } => lines(calendar::calendar(alloc, choice, file, flights, store)),
         Request::Info { file } => lines(info::info(alloc, file, store)),
+        Request::Stations { file } => lines(stations::stations(alloc, file, store)),
         Request::Page { from, file } => lines(page::page(alloc, *from, file, store)),
         Request::Diff {
             form,
@@ -147,7 +181,7 @@ pub(crate) fn make<'r, S: Store>(
                 choice,
                 flights,
             };
-            lines(diff::diff(alloc, &words, from, to, store))
+            reported(form.status, diff::diff(alloc, &words, from, to, store))
         }
         Request::Findings {
             form,
@@ -170,6 +204,6 @@ pub(crate) fn make<'r, S: Store>(
             stations,
             script,
         } => lines(rehearse(alloc, dataset, stations, script, store)),
-        Request::Explain { word } => lines(explain(alloc, word, store)),
+        Request::Explain { status, word } => reported(*status, explain(alloc, word, store)),
     }
 }

@@ -7,7 +7,7 @@ ghost use Rattle.ssim_values.specs.Characters.{two_digits_of};
 ghost use Rattle.ssim_program.specs.Explained.{BeginsWith, ExplainsNumber, ExplainsWord, HasWords};
 ghost use Rattle.ssim_program.specs.Explained.{RefusesWord, number_in};
 ghost use Rattle.ssim_program.specs.Answers.{explain};
-ghost use Rattle.ssim_program.specs.internal.Program.{Answers};
+ghost use Rattle.ssim_program.specs.internal.Program.{Reports};
 
 mod example;
 mod file;
@@ -17,6 +17,7 @@ mod mail;
 mod name;
 
 use crate::data_set::load_file;
+use crate::made::Report;
 use crate::refusal::Refusal;
 use crate::store::Store;
 use example::example;
@@ -28,25 +29,29 @@ use ssim_values::Memory;
 use std::alloc::Global;
 use std::io::Write;
 
-/// What the refusals of a number or a name mean, or what is invalid in the file of this name.
-pub(crate) fn explain<S: Store>(
-    alloc: Global,
-    word: &str,
-    store: &mut S,
-) -> Result<Vec<u8>, Refusal>
-    ensures answer { Answers (explain (S.files store.old) word.now) result }
+/// What the refusals of a number or a name mean, or what is invalid in the file of this name; and
+/// whether something is.
+pub(crate) fn explain<S: Store>(alloc: Global, word: &str, store: &mut S) -> Result<Report, Refusal>
+    ensures answer { Reports (explain (S.files store.old) word.now) result }
     ensures same { S.files store.new ≡ S.files store.old }
     ensures counted { S.failures store.new ≡ S.failures store.old }
 {
     match number_in(word.as_bytes()) {
-        Some(number) => Ok(on_number(alloc, number)?),
+        Some(number) => {
+            let lines = on_number(alloc, number)?;
+            Ok(Report {
+                lines,
+                found: false,
+            })
+        }
         None => on_file(alloc, word, store),
     }
 }
 
 /// What is printed on the file of this name or, if there is none, on the refusal of this name.
-fn on_file<S: Store>(alloc: Global, name: &str, store: &mut S) -> Result<Vec<u8>, Refusal>
-    ensures ok { IfOk result (λ text. ExplainsWord (S.files store.old) name.now text.items) }
+fn on_file<S: Store>(alloc: Global, name: &str, store: &mut S) -> Result<Report, Refusal>
+    ensures ok { IfOk result (λ report. ExplainsWord (S.files store.old) name.now
+        report.lines.items report.found) }
     ensures err { IfErr result (RefusesWord (S.files store.old) name.now) }
     ensures same { S.files store.new ≡ S.files store.old }
     ensures counted { S.failures store.new ≡ S.failures store.old }
@@ -55,7 +60,10 @@ fn on_file<S: Store>(alloc: Global, name: &str, store: &mut S) -> Result<Vec<u8>
         Ok(bytes) => Ok(on_bytes(alloc, &bytes)?),
         Err(refusal) if refusal.number() == Memory.number() => Err(refusal),
         Err(refusal) => match on_name(alloc, name)? {
-            Some(text) => Ok(text),
+            Some(lines) => Ok(Report {
+                lines,
+                found: false,
+            }),
             None => Err(refusal),
         },
     }

@@ -58,6 +58,7 @@ pub(crate) fn finish<S: Store, W: Write>(
             lines,
             refused,
             kept,
+            ..
         } => {
             print_all(out, &lines)?;
             keep_files(alloc, &refused, &kept, store)
@@ -67,5 +68,6 @@ pub(crate) fn finish<S: Store, W: Write>(
         Made::Part { desk, choice } => export_part(desk, &choice, out),
         Made::Texts { place, desk, names } => take_texts(alloc, &place, desk, names, store, out),
         Made::Sections { dataset, prefix } => split_file(alloc, dataset, prefix, store, out),
+        Made::Reported { lines, .. } => print_all(out, &lines),
     }
 }

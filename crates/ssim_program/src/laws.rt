@@ -1,21 +1,23 @@
 //! What holds of the bytes that the commands write, and of desk files after any commands.
 
-ghost use Rattle.std.specs.Prelude.{Bool, List, None, Some};
+ghost use Rattle.std.specs.Prelude.{List, None, Some};
 ghost use Rattle.ssim_command_line.specs.Line.{Board, Calendar, Carry, Check, ChoiceTexts, Diff};
 ghost use Rattle.ssim_command_line.specs.Line.{Convert, Export, Findings, Select, SpanTexts};
 ghost use Rattle.ssim_command_line.specs.Line.{History, Info, Listing, Page, Problems, Show, Text, Texts};
-ghost use Rattle.ssim_command_line.specs.Line.{Tidy, Withdraw};
+ghost use Rattle.ssim_command_line.specs.Line.{Stations, Tidy, Withdraw};
 ghost use Rattle.ssim_command_line.specs.declared.board_form.BoardForm.{BoardForm};
 ghost use Rattle.ssim_command_line.specs.declared.command_line.DiffForm.{DiffForm};
 ghost use Rattle.ssim_command_line.specs.declared.command_line.FindingsForm.{FindingsForm};
 ghost use Rattle.ssim_command_line.specs.declared.command_line.ListForm.{ListForm};
 ghost use Rattle.ssim_command_line.specs.declared.command_line.ModeWord.{ModeWord};
+ghost use Rattle.ssim_command_line.specs.declared.command_line.ProblemsForm.{ProblemsForm};
 ghost use Rattle.ssim_program.specs.Again.{TidiesOnce};
 ghost use Rattle.ssim_program.specs.Calls.{CommandsAreEvents};
-ghost use Rattle.ssim_program.specs.Conflicts.{CarryMeetsTwo, MergeMeetsTwo};
+ghost use Rattle.ssim_program.specs.Conflicts.{CarryMeetsTwo, MergeMeetsTwo, MergeSinceMeetsTwo};
 ghost use Rattle.ssim_program.specs.Conflicts.{ReceiveMeetsTwo, TakeMeetsTwo};
 ghost use Rattle.ssim_program.specs.EqualFiles.{CarriesAsMerges, DoesTheSame, DoesTheSameOfPairs};
 ghost use Rattle.ssim_program.specs.EqualFiles.{MakesTheSame, PrintsTheSame, PrintsTheSameOfPairs};
+ghost use Rattle.ssim_program.specs.MergingSince.{SinceCommutes, SinceIsMerging, SinceItself};
 ghost use Rattle.ssim_program.specs.Messages.{TextsAreMail};
 ghost use Rattle.ssim_program.specs.Offices.{HoldsWhatWasBrought, OfficesAgree};
 ghost use Rattle.ssim_program.specs.FirstProblem.{RefusalIsFirstProblem};
@@ -97,7 +99,7 @@ pub fn equal_desk_files_do_the_same()
 }
 
 /// Of two equal desk files, or of two equal data sets, `show`, `history`, `list`, `board`, `calendar`,
-/// `info`, `page` and `select` do the same: they print the same bytes, or are refused for the same. So do
+/// `info`, `stations`, `page` and `select` do the same: they print the same bytes, or are refused for the same. So do
 /// `diff` and `page` of two pairs of equal files. `convert` keeps the same data set, and prints the
 /// same.
 pub fn equal_timetables_do_the_same()
@@ -112,6 +114,7 @@ pub fn equal_timetables_do_the_same()
     ensures calendar { (words : ChoiceTexts) (flights : List Text)
         → DoesTheSame (λ file. Calendar words file flights) }
     ensures info { DoesTheSame Info }
+    ensures stations { DoesTheSame Stations }
     ensures page { DoesTheSame (Page None) }
     ensures select { (words : ChoiceTexts) (flights : List Text)
         → DoesTheSame (λ file. Select words file flights) }
@@ -131,7 +134,7 @@ pub fn equal_timetables_do_the_same()
 /// invalid record.
 pub fn equal_data_sets_do_the_same()
     ensures check { DoesTheSame Check }
-    ensures problems { (csv : Bool) → DoesTheSame (λ file. Problems csv file) }
+    ensures problems { (form : ProblemsForm) → DoesTheSame (λ file. Problems form file) }
     ensures tidy { DoesTheSame Tidy }
 {
     frames_are_one();
@@ -165,12 +168,21 @@ pub fn refusal_is_first_problem()
     frames_are_one();
 }
 
-/// If `take`, `merge` or `carry`, or a text of `receive`, is refused for a conflict (60), two
-/// different messages have its reference, of those that the desks hold and the texts say. So if no
+/// What `merge --since` leaves: the same whichever of the two is named first; what `merge` leaves if
+/// nothing was withdrawn; and what this desk holds if the other one is the older one.
+pub fn merges_since_an_older_desk()
+    ensures commutes { SinceCommutes }
+    ensures merges { SinceIsMerging }
+    ensures itself { SinceItself }
+{}
+
+/// If `take`, `merge`, `merge --since` or `carry`, or a text of `receive`, is refused for a conflict
+/// (60), two different messages have its reference, of those that the desks hold and the texts say. So if no
 /// originator gives two messages one reference, none is refused so.
 pub fn conflicts_have_two_messages()
     ensures take { TakeMeetsTwo }
     ensures merge { MergeMeetsTwo }
+    ensures since { MergeSinceMeetsTwo }
     ensures carry { CarryMeetsTwo }
     ensures receive { ReceiveMeetsTwo }
 {

@@ -12,8 +12,8 @@
 //!   with `same`; what `tidy` wrote is tidied to itself; the refusal of a data set is its first
 //!   problem.
 //!
-//! **Promise.** The words of a command are no fault of the command line. With status 0 a command
-//! has written exactly what its definition makes of the files that it names, and kept exactly the
+//! **Promise.** The words of a command are no fault of the command line. With status 0 or 3 a
+//! command has written exactly what its definition makes of the files that it names, and kept exactly the
 //! files that it writes. With status 1 the whole line of one refusal was written to `err`, unless
 //! `err` failed. If the refusal is 52, `out` failed and has a prefix, and a file that `start`,
 //! `merge`, `carry`, `withdraw` or `publish` kept stays. If it is another, no file has changed and

@@ -37,6 +37,13 @@ pub(crate) struct Kept<H: Hold + Drop> {
     pub(crate) contents: Contents,
 }
 
+/// Lines to be printed, and whether they are of something found.
+#[derive(Drop)]
+pub(crate) struct Report {
+    pub(crate) lines: Vec<u8>,
+    pub(crate) found: bool,
+}
+
 /// What a command has made.
 #[derive(Drop)]
 pub(crate) enum Made<'n, H: Hold + Drop> {
@@ -48,8 +55,9 @@ pub(crate) enum Made<'n, H: Hold + Drop> {
         lines: Vec<u8>,
     },
     /// Lines to be printed, and then files to be kept: the refused texts of `receive`, if there is a
-    /// place for them, and a desk or messages.
+    /// place for them, and a desk or messages. The status may be to say that something was found.
     Printed {
+        found: bool,
         lines: Vec<u8>,
         refused: Option<Kept<H>>,
         kept: Kept<H>,
@@ -74,5 +82,10 @@ pub(crate) enum Made<'n, H: Hold + Drop> {
     Sections {
         dataset: &'n str,
         prefix: &'n str,
+    },
+    /// Lines to be printed, and whether the status is to say that something was found.
+    Reported {
+        found: bool,
+        lines: Vec<u8>,
     },
 }

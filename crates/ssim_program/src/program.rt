@@ -1,6 +1,6 @@
 //! The program, from its words to its status.
 
-ghost use Rattle.std.specs.Prelude.{◌≡◌, ◌≤◌, ℕ, IsTrue, OnOk, false, map, true};
+ghost use Rattle.std.specs.Prelude.{◌≡◌, ◌≤◌, ℕ, Err, IfErr, IfOk, IsTrue, false, map, true};
 ghost use Rattle.clap.specs.Words.{kind_of};
 ghost use Rattle.ssim_command_line.specs.Line.{Line, Spells};
 ghost use Rattle.ssim_command_line.specs.Line.{line_of};
@@ -10,15 +10,17 @@ ghost use Rattle.ssim_program.specs.Answers.{answers};
 ghost use Rattle.ssim_program.specs.Calls.{Continues};
 ghost use Rattle.ssim_program.specs.Runs.{Obeys, Runs, SaysWrong};
 ghost use Rattle.ssim_program.specs.World.{Does, PrintsRefusal, world};
-ghost use Rattle.ssim_program.specs.internal.Program.{EndsWithoutRequest, SaysHelp};
+ghost use Rattle.ssim_program.specs.internal.Program.{EndsWithoutRequest, IsDone, SaysHelp};
+ghost use Rattle.ssim_program.specs.internal.Program.{made_status, says_found};
 ghost use Rattle.ssim_program.specs.print.Paper.{Paper, new_paper};
 
 use crate::command::make;
 use crate::finish::finish;
+use crate::made::Made;
 use crate::print::printer::{Printer, print_all, print_line};
 use crate::print::refusal_line::print_refusal;
 use crate::refusal::Refusal;
-use crate::store::Store;
+use crate::store::{Hold, Store};
 use ssim_command_line::{LineFault, Request, parse};
 use std::alloc::Global;
 use std::io::Write;
@@ -31,7 +33,7 @@ pub fn run<S: Store, O: Write, E: Write>(
     out: &mut O,
     err: &mut E,
 ) -> u8
-    ensures status { result ≤ 2 }
+    ensures status { result ≤ 3 }
 
     // The words of a command name it.
     ensures plain { (line : Line) → Spells (map (λ w. w.now) words.now) line
@@ -65,7 +67,8 @@ pub fn run<S: Store, O: Write, E: Write>(
 }
 
 /// Runs the program on its words, the first of which is its own name. Returns 0 if the command was
-/// done, or help was asked for; 1 if it was refused; 2 if the words name no command.
+/// done, or help was asked for; 1 if it was refused; 2 if the words name no command; 3 if the command
+/// was done with `--status` and found something.
 ///
 /// What a command prints goes to `out`, the line of a refusal to `err`. If `out` fails, it has
 /// taken a prefix of what was to be printed. A failure of `err` changes no status.
@@ -76,7 +79,7 @@ pub fn run_on<S: Store, O: Write, E: Write>(
     out: &mut Printer<'_, O>,
     err: &mut Printer<'_, E>,
 ) -> u8
-    ensures status { result ≤ 2 }
+    ensures status { result ≤ 3 }
 
     // The words of a command name it.
     ensures plain { (line : Line) → Spells (map (λ w. w.now) words.now) line
@@ -128,26 +131,51 @@ fn obey<S: Store, O: Write, E: Write>(
 {
     store.begin();
     match act(alloc, request, store, out) {
-        Ok(()) => 0,
+        Ok(status) => status,
         Err(refusal) => refuse(&refusal, err),
     }
 }
 
-/// Does what a command asks.
+/// Does what a command asks. Returns its status.
 fn act<S: Store, O: Write>(
     alloc: Global,
     request: &Request<'_>,
     store: &mut S,
     out: &mut Printer<'_, O>,
-) -> Result<(), Refusal>
+) -> Result<u8, Refusal>
     requires fresh { IsTrue (S.is_fresh store.now) }
-    ensures does { Does (answers (line_of request.now) (S.files store.old))
+    ensures done { IfOk result (IsDone (line_of request.now)
         (world (S.files store.old) (S.failures store.old) out.old)
-        (world (S.files store.new) (S.failures store.new) out.new) result }
-    ensures again { OnOk result (PrintsItself (line_of request.now) out.old.taken out.new.taken) }
+        (world (S.files store.new) (S.failures store.new) out.new)) }
+    ensures refused { IfErr result (λ refusal.
+        Does (answers (line_of request.now) (S.files store.old))
+        (world (S.files store.old) (S.failures store.old) out.old)
+        (world (S.files store.new) (S.failures store.new) out.new) (Err refusal)) }
+    ensures again { IfOk result
+        (λ _. PrintsItself (line_of request.now) out.old.taken out.new.taken) }
 {
     let made = make(alloc, request, store)?;
-    finish(alloc, made, store, out)
+    let status = status_of(&made);
+    finish(alloc, made, store, out)?;
+    Ok(status)
+}
+
+/// The status of a command that is done, by what it has made.
+fn status_of<H: Hold + Drop>(made: &Made<'_, H>) -> u8
+    ensures { result ≡ made_status made.now }
+{
+    if says_found(made) { 3 } else { 0 }
+}
+
+/// Whether the status is to say that something was found.
+fn says_found<H: Hold + Drop>(made: &Made<'_, H>) -> bool
+    ensures { result ≡ says_found made.now }
+{
+    match made {
+        Made::Reported { found, .. } => *found,
+        Made::Printed { found, .. } => *found,
+        _ => false,
+    }
 }
 
 /// Prints the line of a refusal. It allocates nothing, so each refusal has its own line. Returns 1.

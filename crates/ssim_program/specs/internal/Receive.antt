@@ -1,5 +1,5 @@
 -- What contracts see of receipts, and what is done while files are received.
-use Rattle.std.specs.Prelude.{◌≡◌, ℕ, List, [], ◌∷◌, ◌++◌, Option, Ok}
+use Rattle.std.specs.Prelude.{◌≡◌, ℕ, Bool, List, [], ◌∷◌, ◌++◌, Option, Ok}
 use Rattle.std.specs.List.{count_by, flat_map}
 use Rattle.ssim_base.specs.Export.{line}
 use Rattle.ssim_mailbox.specs.clauses.Mail.{mail_of}
@@ -8,7 +8,7 @@ use Rattle.ssim_command_line.specs.Line.{Text}
 use Rattle.ssim_program.specs.Desks.{desk_in}
 use Rattle.ssim_program.specs.Files.{Files}
 use Rattle.ssim_program.specs.Receiving.{Receipt, Accepted, Refused, Unread, ReceivesEach}
-use Rattle.ssim_program.specs.Receiving.{is_refused, is_repeated, is_taken, receipt_lines}
+use Rattle.ssim_program.specs.Receiving.{any_refused, is_refused, is_repeated, is_taken, receipt_lines}
 use Rattle.ssim_program.specs.Receiving.{receipt_text, refused_texts}
 use Rattle.ssim_program.specs.declared.command.receive.receipt.Receipt as code
 use Rattle.ssim_program.specs.declared.command.receive.receipt.Receipts.{Receipts}
@@ -33,6 +33,11 @@ abbrev pub AddsOne : Receipt → Receipts → Receipts → Type 0
 AddsOne receipt old new =
     (before : List Receipt) → AreReceipts old before → AreReceipts new (before ++ receipt ∷ [])
 
+-- whether some text of these receipts was refused, or some file was not read
+abbrev pub HasRefused : Receipts → Bool → Type 0
+HasRefused all found =
+    (receipts : List Receipt) → AreReceipts all receipts → found ≡ any_refused receipts
+
 -- these are the lines of receipts, with the line that counts them, and the refused texts
 abbrev pub HaveLines : Receipts → List ℕ → List ℕ → Type 0
 HaveLines all lines texts =
@@ -52,13 +57,15 @@ Adds receives before after old new =
     (receipts : List Receipt) × receives before receipts after
     × ((earlier : List Receipt) → AreReceipts old earlier → AreReceipts new (earlier ++ receipts))
 
--- the desk in a file has received the files of these names: the lines, and the refused texts
+-- the desk in a file has received the files of these names: whether some text was refused, the lines,
+-- and the refused texts
 pub record HasReceived (files : Option Files) (file : Text) (names : List Text) (after : DeskSeen)
-    (lines refused : List ℕ) : Type 0 where
+    (found : Bool) (lines refused : List ℕ) : Type 0 where
   pub before : DeskSeen
   pub reads : desk_in files file (Ok before)
   pub receipts : List Receipt
   pub received : ReceivesEach files names before receipts after
   pub rising : AreRising after.held
+  pub found_is : found ≡ any_refused receipts
   pub lines_are : lines ≡ receipt_lines receipts
   pub texts_are : refused ≡ refused_texts receipts

@@ -1,7 +1,8 @@
--- What `diff` prints.
-use Rattle.std.specs.Prelude.{ℕ, if◌then◌else◌, List}
+-- What `diff` prints, and whether it finds something.
+use Rattle.std.specs.Prelude.{ℕ, Bool, nat_lt, if◌then◌else◌, List, length}
 use Rattle.ssim_values.specs.Flight.{FlightNumber}
 use Rattle.ssim_base.specs.Timetable.{Days}
+use Rattle.ssim_difference.specs.Differences.{differences}
 use Rattle.ssim_difference.specs.Kinds.{summary_lines}
 use Rattle.ssim_difference.specs.Lines.{difference_lines}
 use Rattle.ssim_command_line.specs.declared.command_line.DiffForm.{DiffForm}
@@ -12,3 +13,13 @@ abbrev pub printed_difference : DiffForm → List ℕ → (FlightNumber → Days
     → List ℕ
 printed_difference form airline old new =
     if form.summary then summary_lines old new else difference_lines airline old new
+
+-- whether two timetables differ: whether a flight has another itinerary on some date
+abbrev pub are_different : (FlightNumber → Days) → (FlightNumber → Days) → Bool
+are_different old new = nat_lt 0 (length (differences old new))
+
+-- the lines of two timetables of an airline, and whether they differ
+abbrev pub reported_difference : DiffForm → List ℕ → (FlightNumber → Days) → (FlightNumber → Days)
+    → List ℕ × Bool
+reported_difference form airline old new =
+    (printed_difference form airline old new, are_different old new)

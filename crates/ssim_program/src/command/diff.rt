@@ -1,8 +1,10 @@
 //! The command `diff`: on which of the chosen dates the timetables of two files differ, or how many
 //! changes of each kind there are.
 
-ghost use Rattle.std.specs.Prelude.{◌≡◌, IfErr, IfOk, map};
+ghost use Rattle.std.specs.Prelude.{◌≡◌, IfErr, IfOk, codes, map, not};
+ghost use Rattle.std.specs.Str.{bytes_eq};
 ghost use Rattle.ssim_values.specs.Flight.{FlightNumber};
+ghost use Rattle.ssim_base.specs.Export.{line};
 ghost use Rattle.ssim_base.specs.Timetable.{Days};
 ghost use Rattle.ssim_schedule.specs.FlightPieces.{divided_flights};
 ghost use Rattle.ssim_difference.specs.ChosenDates.{chosen_side};
@@ -11,10 +13,11 @@ ghost use Rattle.ssim_command_line.specs.Line.{choice_line};
 ghost use Rattle.ssim_program.specs.Timetables.{ReadsTimetable, RefusesTimetable};
 ghost use Rattle.ssim_program.specs.internal.Diff.{HasFlights};
 ghost use Rattle.ssim_program.specs.Answers.{diff, differences};
-ghost use Rattle.ssim_program.specs.internal.Program.{Answers};
-ghost use Rattle.ssim_program.specs.print.Difference.{printed_difference};
+ghost use Rattle.ssim_program.specs.internal.Program.{Reports};
+ghost use Rattle.ssim_program.specs.print.Difference.{are_different, printed_difference};
 
 use crate::command::choice::choice_in;
+use crate::made::Report;
 use crate::refusal::Refusal;
 use crate::store::Store;
 use crate::timetable_file::{carrier_of, open_timetable};
@@ -43,16 +46,16 @@ pub(crate) struct DiffWords<'a> {
     pub flights: &'a [&'a str],
 }
 
-/// The chosen dates on which the timetables of two files differ. The records of the first are freed
-/// before the second is read.
+/// The chosen dates on which the timetables of two files differ, and whether there are any. The
+/// records of the first are freed before the second is read.
 pub(crate) fn diff<S: Store>(
     alloc: Global,
     words: &DiffWords<'_>,
     from: &str,
     to: &str,
     store: &mut S,
-) -> Result<Vec<u8>, Refusal>
-    ensures answer { Answers (diff (S.files store.old) words.now.form
+) -> Result<Report, Refusal>
+    ensures answer { Reports (diff (S.files store.old) words.now.form
         (choice_line words.now.choice.now) from.now to.now
         (map (λ t. t.now) words.now.flights.now)) result }
     ensures same { S.files store.new ≡ S.files store.old }
@@ -97,16 +100,16 @@ fn compared(
     words: &DiffWords<'_>,
     old: &Timetable,
     desk: Holdings,
-) -> Result<Vec<u8>, Refusal>
+) -> Result<Report, Refusal>
     ensures { (before : DeskSeen) → HasFlights before old.now.carrier old.now.flights.items
-        → Answers (differences words.now.form (choice_line words.now.choice.now)
+        → Reports (differences words.now.form (choice_line words.now.choice.now)
         (map (λ t. t.now) words.now.flights.now) before desk) result }
 {
     let new = flights_of(desk)?;
     compare(&old.carrier, &new.carrier)?;
     let airline = old.carrier.airline();
     let choice = choice_in(alloc, airline, words.choice, words.flights)?;
-    let lines = printed(
+    let report = reported(
         alloc,
         words.form,
         airline,
@@ -114,7 +117,37 @@ fn compared(
         &old.flights,
         &new.flights,
     )?;
-    Ok(lines)
+    Ok(report)
+}
+
+/// The chosen differences of two timetables as the options say, and whether there are any.
+fn reported(
+    alloc: Global,
+    form: DiffForm,
+    airline: Airline,
+    choice: &Choice,
+    old: &[FlightPieces],
+    new: &[FlightPieces],
+) -> Result<Report, Memory>
+    ensures lines { (before after : FlightNumber → Days)
+        → old.now ≡ divided_flights before → new.now ≡ divided_flights after
+        → IfOk result (λ report. report.lines.items ≡ printed_difference form airline
+        (chosen_side choice.now before after before) (chosen_side choice.now before after after)) }
+    ensures found { (before after : FlightNumber → Days)
+        → old.now ≡ divided_flights before → new.now ≡ divided_flights after
+        → IfOk result (λ report. report.found ≡ are_different
+        (chosen_side choice.now before after before) (chosen_side choice.now before after after)) }
+{
+    let lines = printed(alloc, form, airline, choice, old, new)?;
+    let found = are_changes(&lines);
+    Ok(Report { lines, found })
+}
+
+/// Whether these lines are others than the line `same` alone.
+fn are_changes(lines: &[u8]) -> bool
+    ensures { result ≡ not (bytes_eq lines.now (line (codes "same"))) }
+{
+    lines != b"same\n".as_slice()
 }
 
 /// The chosen differences of two timetables as the options say.

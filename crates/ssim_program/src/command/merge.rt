@@ -43,7 +43,7 @@ pub(crate) fn merge<'n, S: Store>(
 }
 
 /// Holds what the other desk holds, too.
-fn merge_desks(desk: &mut Holdings, other: &Holdings) -> Result<(), Refusal>
+pub(crate) fn merge_desks(desk: &mut Holdings, other: &Holdings) -> Result<(), Refusal>
     ensures merged { OnOk result (IsMergeOf desk.old other.now desk.new) }
     ensures why { IfErr result (λ why. merged desk.old other.now (Err why)) }
 {

@@ -41,6 +41,7 @@ pub(crate) fn publish<'n, S: Store>(
     let contents = Contents::Bytes(mail);
     let kept = Kept { place, contents };
     Ok(Made::Printed {
+        found: false,
         lines,
         refused: None,
         kept,

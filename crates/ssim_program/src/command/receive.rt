@@ -3,7 +3,7 @@
 mod mailboxes;
 mod receipt;
 
-ghost use Rattle.std.specs.Prelude.{◌≡◌, ◌∷◌, Err, IfErr, IfOk, IfSome, IsTrue, Ok, map, option_map};
+ghost use Rattle.std.specs.Prelude.{◌≡◌, ◌&&◌, ◌∷◌, Err, IfErr, IfOk, IfSome, IsTrue, Ok, map, option_map};
 ghost use Rattle.std.specs.List.{list_any};
 ghost use Rattle.std.specs.Str.{bytes_eq};
 ghost use Rattle.ssim_program.specs.Answers.{receive};
@@ -22,11 +22,21 @@ use crate::store::{Hold, Store};
 use ssim_desk::Holdings;
 use std::alloc::Global;
 
+/// The options of the command, and the mailbox files that it names.
+#[derive(Clone, Copy)]
+pub(crate) struct ReceiveWords<'a> {
+    pub refused: Option<&'a str>,
+    pub status: bool,
+    pub texts: &'a [&'a str],
+}
+
 /// What became of the texts of mailbox files at a desk.
 #[derive(Drop)]
 struct Received {
     /// The desk with all that it took.
     desk: Holdings,
+    /// Whether a text was refused, or a file was not read.
+    found: bool,
     /// What became of each text.
     lines: Vec<u8>,
     /// The refused texts.
@@ -41,19 +51,22 @@ fn received_by<S: Store>(
     store: &mut S,
 ) -> Result<Received, Refusal>
     ensures ok { IfOk result (λ r. HasReceived (S.files store.old) file.now
-        (map (λ t. t.now) names.now) r.desk r.lines.items r.refused.items) }
+        (map (λ t. t.now) names.now) r.desk r.found r.lines.items r.refused.items) }
     ensures err { IfErr result (λ why. received (S.files store.old) file.now
         (map (λ t. t.now) names.now) (Err why)) }
     ensures same { S.files store.new ≡ S.files store.old }
     ensures counted { S.failures store.new ≡ S.failures store.old }
 {
     let mut desk = open_intake(alloc, file, store)?;
-    let (lines, refused) = receive_files(alloc, &mut desk, names, store)?.finish()?;
+    let receipts = receive_files(alloc, &mut desk, names, store)?;
+    let found = receipts.has_refused();
+    let (lines, refused) = receipts.finish()?;
     let desk = desk.finish()?;
     // No effect at run time. The proof reads from this use that the messages are in order.
     let _ = desk.held();
     Ok(Received {
         desk,
+        found,
         lines,
         refused,
     })
@@ -168,21 +181,20 @@ fn kept_texts<H: Hold + Drop>(place: Option<H>, texts: Vec<u8>) -> Option<Kept<H
 /// no memory for the texts of a file or for the lines, the command is refused with 90.
 pub(crate) fn receive<'n, S: Store>(
     alloc: Global,
-    refused: Option<&str>,
+    words: &ReceiveWords<'_>,
     file: &str,
     out: &str,
-    names: &[&str],
     store: &mut S,
 ) -> Result<Made<'n, S::Hold>, Refusal>
     requires fresh { IsTrue (S.is_fresh store.now) }
     ensures answer { MakesOr S.Hold.file (S.files store.old)
-        (receive (S.files store.old) (option_map (λ t. t.now) refused.entry) file.now out.now
-        (map (λ t. t.now) names.now)) result }
+        (receive (S.files store.old) (option_map (λ t. t.now) words.now.refused) words.now.status
+        file.now out.now (map (λ t. t.now) words.now.texts.now)) result }
     ensures same { S.files store.new ≡ S.files store.old }
     ensures counted { S.failures store.new ≡ S.failures store.old }
 {
-    let places = hold_places(alloc, refused, file, out, names, store)?;
-    let received = received_by(alloc, file, names, store)?;
+    let places = hold_places(alloc, words.refused, file, out, words.texts, store)?;
+    let received = received_by(alloc, file, words.texts, store)?;
     let lines = received.lines;
     let refused = kept_texts(places.refused, received.refused);
     let kept = Kept {
@@ -190,8 +202,16 @@ pub(crate) fn receive<'n, S: Store>(
         contents: Contents::DeskFile(received.desk),
     };
     Ok(Made::Printed {
+        found: is_told(words, received.found),
         lines,
         refused,
         kept,
     })
+}
+
+/// Whether the status says that a text was refused, or that a file was not read.
+fn is_told(words: &ReceiveWords<'_>, found: bool) -> bool
+    ensures { result ≡ (words.now.status && found) }
+{
+    words.status && found
 }

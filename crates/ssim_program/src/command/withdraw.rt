@@ -41,6 +41,7 @@ pub(crate) fn withdraw<'n, S: Store>(
     let contents = Contents::DeskFile(desk);
     let kept = Kept { place, contents };
     Ok(Made::Printed {
+        found: false,
         lines,
         refused: None,
         kept,

@@ -1,7 +1,7 @@
 //! What is printed on a file: the refusal of its first invalid place, what else it is, or that it is
 //! valid.
 
-ghost use Rattle.std.specs.Prelude.{◌≡◌, ◌≤◌, ◌++◌, codes, length, true, IfOk, None};
+ghost use Rattle.std.specs.Prelude.{◌≡◌, ◌≤◌, ◌++◌, codes, false, length, true, IfOk, None};
 ghost use Rattle.ssim_base.specs.Export.{line};
 ghost use Rattle.ssim_program.specs.Explained.{BeginsWith, ExplainsBytes, TellsInvalid, kind_name};
 ghost use Rattle.ssim_program.specs.Explained.{kind_of, may_be_mail, told_as};
@@ -15,6 +15,7 @@ use super::foreign::{ForeignKind, foreign_kind, on_foreign};
 use super::mail::{is_mail, is_mailbox, on_mailbox, tried_texts};
 use super::on_refusal;
 use crate::data_set::{LIMIT, sum_bytes};
+use crate::made::Report;
 use crate::refusal::Refusal;
 use crate::rehearse::script::Script;
 use ssim_base::{BaseFault, BaseRefusal, Place, StationFault, Stations};
@@ -26,10 +27,11 @@ use ssim_text::{TextFault, decode};
 use ssim_values::Memory;
 use std::alloc::{AllocError, Global};
 
-/// What is printed on a file of these bytes.
-pub(crate) fn on_bytes(alloc: Global, bytes: &[u8]) -> Result<Vec<u8>, Memory>
+/// What is printed on a file of these bytes, and whether something is invalid.
+pub(crate) fn on_bytes(alloc: Global, bytes: &[u8]) -> Result<Report, Memory>
     requires { length bytes.now ≤ file_limit }
-    ensures { IfOk result (λ text. ExplainsBytes bytes.now text.items) }
+    ensures { IfOk result
+        (λ report. ExplainsBytes bytes.now report.lines.items report.found) }
 {
     let kind = kind_of(bytes);
     match judged(alloc, kind, bytes)? {
@@ -44,15 +46,22 @@ fn on_invalid(
     kind: FileKind,
     bytes: &[u8],
     refusal: &Refusal,
-) -> Result<Vec<u8>, Memory>
+) -> Result<Report, Memory>
     requires { kind ≡ kind_of bytes.now }
-    ensures { IfOk result (λ text.
-        TellsInvalid (told_as (foreign_kind bytes.now) bytes.now) bytes.now refusal.now text.items) }
+    ensures { IfOk result (λ report.
+        TellsInvalid (told_as (foreign_kind bytes.now) bytes.now) bytes.now refusal.now
+        report.lines.items report.found) }
 {
     match foreign_kind(bytes) {
-        Some(foreign) => on_foreign(alloc, foreign),
+        Some(foreign) => {
+            let lines = on_foreign(alloc, foreign)?;
+            Ok(Report { lines, found: true })
+        }
         None if may_be_mail(kind) => on_text(alloc, bytes, refusal),
-        None => on_refused(alloc, bytes, refusal),
+        None => {
+            let lines = on_refused(alloc, bytes, refusal)?;
+            Ok(Report { lines, found: true })
+        }
     }
 }
 
@@ -64,10 +73,10 @@ fn may_be_mail(kind: FileKind) -> bool
 }
 
 /// What is printed on a file with this refusal that may be mail.
-fn on_text(alloc: Global, bytes: &[u8], refusal: &Refusal) -> Result<Vec<u8>, Memory>
+fn on_text(alloc: Global, bytes: &[u8], refusal: &Refusal) -> Result<Report, Memory>
     requires { may_be_mail (kind_of bytes.now) ≡ true }
-    ensures { IfOk result (λ text.
-        TellsInvalid (told_as None bytes.now) bytes.now refusal.now text.items) }
+    ensures { IfOk result (λ report.
+        TellsInvalid (told_as None bytes.now) bytes.now refusal.now report.lines.items report.found) }
 {
     let texts = tried_texts(alloc, bytes)?;
     let as_mailbox = is_mailbox(alloc, &texts, bytes)?;
@@ -76,9 +85,11 @@ fn on_text(alloc: Global, bytes: &[u8], refusal: &Refusal) -> Result<Vec<u8>, Me
     }
     let as_mail = is_mail(alloc, &texts, bytes)?;
     if as_mail {
-        return on_foreign(alloc, ForeignKind::Mail);
+        let lines = on_foreign(alloc, ForeignKind::Mail)?;
+        return Ok(Report { lines, found: true });
     }
-    on_refused(alloc, bytes, refusal)
+    let lines = on_refused(alloc, bytes, refusal)?;
+    Ok(Report { lines, found: true })
 }
 
 /// The line of the refusal of a file, the words on it, and the words on its place.
@@ -90,12 +101,17 @@ fn on_refused(alloc: Global, bytes: &[u8], refusal: &Refusal) -> Result<Vec<u8>,
 }
 
 /// That a file is valid.
-fn on_valid(alloc: Global, kind: FileKind) -> Result<Vec<u8>, Memory>
-    ensures { IfOk result (λ text. text.items ≡ line (codes "valid " ++ kind_name kind)) }
+fn on_valid(alloc: Global, kind: FileKind) -> Result<Report, Memory>
+    ensures lines { IfOk result
+        (λ report. report.lines.items ≡ line (codes "valid " ++ kind_name kind)) }
+    ensures found { IfOk result (λ report. report.found ≡ false) }
 {
-    let mut text = Vec::from_slice(alloc, b"valid ")?;
-    text.extend_from_slice(name_of(kind).as_bytes())?;
-    Ok(text)
+    let mut lines = Vec::from_slice(alloc, b"valid ")?;
+    lines.extend_from_slice(name_of(kind).as_bytes())?;
+    Ok(Report {
+        lines,
+        found: false,
+    })
 }
 
 /// The name of a kind of file, as the end of a line.

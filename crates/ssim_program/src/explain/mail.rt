@@ -10,10 +10,11 @@ ghost use Rattle.ssim_mailbox.specs.clauses.Mail.{mail_of};
 ghost use Rattle.ssim_text.specs.Left.{lines_left};
 ghost use Rattle.ssim_program.specs.Mailboxes.{BeginsWithMailbox, IsTried, after_name, are_more};
 ghost use Rattle.ssim_program.specs.Mailboxes.{begins_mail, has_message, is_mail, is_mailbox, is_of_name};
-ghost use Rattle.ssim_program.specs.Mailboxes.{mailbox_text};
+ghost use Rattle.ssim_program.specs.Mailboxes.{any_is_none, mailbox_text};
 ghost use Rattle.ssim_program.specs.internal.Explain.{tried_of};
 
 use super::with_words;
+use crate::made::Report;
 use crate::print::printed_line::add_line;
 use crate::print::refusal_line::RefusedAt;
 use crate::refusal::Refusal;
@@ -190,20 +191,26 @@ fn mailbox_line(alloc: Global, texts: &[TriedText]) -> Result<Vec<u8>, Memory>
 }
 
 /// The line that counts the texts of a mailbox. Then, for each that is no message, an empty line and
-/// what is printed on it, with lines counted from the mailbox's first.
-pub(super) fn on_mailbox(
-    alloc: Global,
-    bytes: &[u8],
-    texts: &[TriedText],
-) -> Result<Vec<u8>, Memory>
+/// what is printed on it, with lines counted from the mailbox's first. Something is found if there is
+/// one.
+pub(super) fn on_mailbox(alloc: Global, bytes: &[u8], texts: &[TriedText]) -> Result<Report, Memory>
     requires texts { map (λ t. (tried_of t).0) texts.now ≡ texts_in bytes.now }
     requires tried { AllByRecursion IsTried (map tried_of texts.now) }
-    ensures { IfOk result (λ text. BeginsWithMailbox bytes.now text.items) }
+    ensures { IfOk result
+        (λ report. BeginsWithMailbox bytes.now report.lines.items report.found) }
 {
-    let mut text = mailbox_line(alloc, texts)?;
+    let mut lines = mailbox_line(alloc, texts)?;
     let words = words_on_texts(alloc, bytes, texts)?;
-    text.extend_from_slice(&words)?;
-    Ok(text)
+    lines.extend_from_slice(&words)?;
+    let found = any_is_none(texts);
+    Ok(Report { lines, found })
+}
+
+/// Whether one of the texts is no message.
+fn any_is_none(texts: &[TriedText]) -> bool
+    ensures { result ≡ any_is_none (map tried_of texts.now) }
+{
+    refused_of(texts) > 0
 }
 
 /// What is printed on each text that is no message, after an empty line.

@@ -1,17 +1,18 @@
 -- Each request makes what its command does.
-use Rattle.std.proofs.Common.{◌≡◌, Bor, Err, List, ℕ, Ok, Option, Result, Vec, map, option_map, refl}
-use Rattle.std.proofs.Common.{subst, sym}
+use Rattle.std.proofs.Common.{◌≡◌, [], ◌∷◌, Bool, Bor, Err, List, ℕ, Ok, Option, Result, Vec, ap₂, map}
+use Rattle.std.proofs.Common.{option_map, refl, subst, sym}
 use Rattle.ssim_command_line.specs.Line.{choice_line, line_of, span_line}
 use Rattle.ssim_command_line.specs.declared.command_line.Request.{Request}
-use Rattle.ssim_program.specs.Acts.{prints}
+use Rattle.ssim_program.specs.Acts.{Print, found_then, prints, reports}
 use Rattle.ssim_program.specs.Answer.{Answer}
 use Rattle.ssim_program.specs.Answers as answer
 use Rattle.ssim_program.specs.Answers.{answers}
 use Rattle.ssim_program.specs.Files.{Files}
 use Rattle.ssim_program.specs.Splitting.{split}
-use Rattle.ssim_program.specs.internal.Program.{Answers, AreLines, MakesOr}
+use Rattle.ssim_program.specs.internal.Program.{Answers, AreLines, IsReport, MakesOr, Reports}
 use Rattle.ssim_program.specs.declared.made.Made.{Made}
 use Rattle.ssim_program.specs.declared.made.Made.TheVariants as made
+use Rattle.ssim_program.specs.declared.made.Report.{Report}
 use Rattle.ssim_program.specs.declared.refusal.Refusal.{Refusal}
 use Rattle.ssim_program.proofs.command.make.Goals as goal
 
@@ -27,8 +28,9 @@ lines_of : {A H : Type 0} (file : H → List ℕ) (files : Option Files) (answer
     → MakesOr file files (prints answer) r
 lines_of file files answer (Ok v) (Ok (made.Lines lines)) is same =
     (lines.items, subst (λ (bytes : List ℕ). answer (Ok bytes)) (sym same) is, refl)
+lines_of file files answer (Ok v) (Ok (made.Reported found lines)) is same = absurd same
 lines_of file files answer (Ok v) (Ok (made.Kept kept lines)) is same = absurd same
-lines_of file files answer (Ok v) (Ok (made.Printed lines refused kept)) is same = absurd same
+lines_of file files answer (Ok v) (Ok (made.Printed found lines refused kept)) is same = absurd same
 lines_of file files answer (Ok v) (Ok (made.DataSet set)) is same = absurd same
 lines_of file files answer (Ok v) (Ok (made.Desk desk)) is same = absurd same
 lines_of file files answer (Ok v) (Ok (made.Part desk choice)) is same = absurd same
@@ -37,6 +39,27 @@ lines_of file files answer (Ok v) (Ok (made.Sections dataset prefix)) is same = 
 lines_of file files answer (Ok v) (Err why) is same = absurd same
 lines_of file files answer (Err why) (Ok m) is same = absurd same
 lines_of file files answer (Err why) (Err refusal) is same =
+    subst (λ (e : Refusal). answer (Err e)) (sym same) is
+
+report_of : {H : Type 0} (file : H → List ℕ) (files : Option Files) (asked : Bool)
+    (answer : Answer (List ℕ × Bool)) (v : Result Report Refusal) (r : Result (Made H) Refusal)
+    → Reports answer v → IsReport asked v r → MakesOr file files (reports asked answer) r
+report_of file files asked answer (Ok report) (Ok (made.Reported found lines)) is same = (
+  (report.lines.items, report.found),
+  is,
+  ap₂ (λ (b : Bool) (bytes : List ℕ). found_then b (Print bytes ∷ [])) same.0 same.1,
+)
+report_of file files asked answer (Ok report) (Ok (made.Lines lines)) is same = absurd same
+report_of file files asked answer (Ok report) (Ok (made.Kept kept lines)) is same = absurd same
+report_of file files asked answer (Ok report) (Ok (made.Printed found lines refused kept)) is same = absurd same
+report_of file files asked answer (Ok report) (Ok (made.DataSet set)) is same = absurd same
+report_of file files asked answer (Ok report) (Ok (made.Desk desk)) is same = absurd same
+report_of file files asked answer (Ok report) (Ok (made.Part desk choice)) is same = absurd same
+report_of file files asked answer (Ok report) (Ok (made.Texts place desk names)) is same = absurd same
+report_of file files asked answer (Ok report) (Ok (made.Sections dataset prefix)) is same = absurd same
+report_of file files asked answer (Ok report) (Err why) is same = absurd same
+report_of file files asked answer (Err why) (Ok m) is same = absurd same
+report_of file files asked answer (Err why) (Err refusal) is same =
     subst (λ (e : Refusal). answer (Err e)) (sym same) is
 
 sections_made : {H : Type 0} (file : H → List ℕ) (files : Option Files) (dataset prefix : Bor (List ℕ))
@@ -57,12 +80,12 @@ pub returns-in-Receive-clause-answer : goal.returns-in-Receive-clause-answer
 returns-in-Receive-clause-answer g c = let old = g.S.Store.files c.args.store.now in
     made_of _ _ _ _ _ c.in-Receive.is
     (subst (λ (words : List (Bor (List ℕ))). MakesOr g.S.Hold.Hold.file old
-    (answer.receive old (option_map (λ t. t.now) c.in-Receive.refused) c.in-Receive.desk.now
-    c.in-Receive.out.now (map (λ t. t.now) words)) c.receive.result)
+    (answer.receive old (option_map (λ t. t.now) c.in-Receive.refused) c.in-Receive.status
+    c.in-Receive.desk.now c.in-Receive.out.now (map (λ t. t.now) words)) c.receive.result)
     c.deref-in-Receive.ensures.value c.receive.ensures.answer)
 
 pub returns-in-Merge-clause-answer : goal.returns-in-Merge-clause-answer
-returns-in-Merge-clause-answer g c = made_of _ _ _ _ _ c.in-Merge.is c.merge.ensures.answer
+returns-in-Merge-clause-answer g c = made_of _ _ _ _ _ c.in-Merge.is c.merge_either.ensures.answer
 
 pub returns-in-Carry-clause-answer : goal.returns-in-Carry-clause-answer
 returns-in-Carry-clause-answer g c = made_of _ _ _ _ _ c.in-Carry.is c.carry.ensures.answer
@@ -101,9 +124,9 @@ returns-in-Check-clause-answer g c = let old = g.S.Store.files c.args.store.now 
 pub returns-in-Problems-clause-answer : goal.returns-in-Problems-clause-answer
 returns-in-Problems-clause-answer g c = let old = g.S.Store.files c.args.store.now in
     made_of _ _ _ _ _ c.in-Problems.is
-    (lines_of g.S.Hold.Hold.file old (answer.problems old c.in-Problems.csv c.in-Problems.dataset.now)
-    c.problems.result c.lines-in-Problems.result c.problems.ensures.answer
-    c.lines-in-Problems.ensures)
+    (report_of g.S.Hold.Hold.file old c.in-Problems.form.status
+    (answer.problems old c.in-Problems.form.csv c.in-Problems.dataset.now)
+    c.problems.result c.reported.result c.problems.ensures.answer c.reported.ensures)
 
 pub returns-in-Texts-clause-answer : goal.returns-in-Texts-clause-answer
 returns-in-Texts-clause-answer g c = let old = g.S.Store.files c.args.store.now in
@@ -176,6 +199,12 @@ returns-in-Info-clause-answer g c = let old = g.S.Store.files c.args.store.now i
     (lines_of g.S.Hold.Hold.file old (answer.info old c.in-Info.file.now) c.info.result
     c.lines-in-Info.result c.info.ensures.answer c.lines-in-Info.ensures)
 
+pub returns-in-Stations-clause-answer : goal.returns-in-Stations-clause-answer
+returns-in-Stations-clause-answer g c = let old = g.S.Store.files c.args.store.now in
+    made_of _ _ _ _ _ c.in-Stations.is
+    (lines_of g.S.Hold.Hold.file old (answer.stations old c.in-Stations.file.now) c.stations.result
+    c.lines-in-Stations.result c.stations.ensures.answer c.lines-in-Stations.ensures)
+
 pub returns-in-Page-clause-answer : goal.returns-in-Page-clause-answer
 returns-in-Page-clause-answer g c = let old = g.S.Store.files c.args.store.now in
     made_of _ _ _ _ _ c.in-Page.is
@@ -186,15 +215,15 @@ returns-in-Page-clause-answer g c = let old = g.S.Store.files c.args.store.now i
 pub returns-in-Diff-clause-answer : goal.returns-in-Diff-clause-answer
 returns-in-Diff-clause-answer g c = let old = g.S.Store.files c.args.store.now in
     made_of _ _ _ _ _ c.in-Diff.is
-    (lines_of g.S.Hold.Hold.file old
+    (report_of g.S.Hold.Hold.file old c.in-Diff.form.status
     (answer.diff old c.in-Diff.form (choice_line c.in-Diff.choice) c.in-Diff.from.now
     c.in-Diff.to.now (map (λ t. t.now) c.in-Diff.flights.items)) c.diff.result
-    c.lines-in-Diff.result
-    (subst (λ (words : List (Bor (List ℕ))). Answers
+    c.reported-in-Diff.result
+    (subst (λ (words : List (Bor (List ℕ))). Reports
     (answer.diff old c.in-Diff.form (choice_line c.in-Diff.choice) c.in-Diff.from.now
     c.in-Diff.to.now (map (λ t. t.now) words)) c.diff.result) c.deref-in-Diff.ensures.value
     c.diff.ensures.answer)
-    c.lines-in-Diff.ensures)
+    c.reported-in-Diff.ensures)
 
 pub returns-in-Findings-clause-answer : goal.returns-in-Findings-clause-answer
 returns-in-Findings-clause-answer g c = let old = g.S.Store.files c.args.store.now in
@@ -228,5 +257,6 @@ returns-in-Rehearse-clause-answer g c = let old = g.S.Store.files c.args.store.n
 pub returns-in-Explain-clause-answer : goal.returns-in-Explain-clause-answer
 returns-in-Explain-clause-answer g c = let old = g.S.Store.files c.args.store.now in
     made_of _ _ _ _ _ c.in-Explain.is
-    (lines_of g.S.Hold.Hold.file old (answer.explain old c.in-Explain.word.now) c.explain.result
-    c.lines-in-Explain.result c.explain.ensures.answer c.lines-in-Explain.ensures)
+    (report_of g.S.Hold.Hold.file old c.in-Explain.status (answer.explain old c.in-Explain.word.now)
+    c.explain.result c.reported-in-Explain.result c.explain.ensures.answer
+    c.reported-in-Explain.ensures)

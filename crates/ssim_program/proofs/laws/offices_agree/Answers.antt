@@ -1,4 +1,4 @@
-use Rattle.ssim_program.proofs.Offices.{holds_what_was_brought, offices_agree}
+use Rattle.ssim_program.proofs.OfficesAgree.{holds_what_was_brought, offices_agree}
 use Rattle.ssim_program.proofs.laws.offices_agree.Goals as goal
 
 pub returns : goal.returns

@@ -5,7 +5,8 @@ ghost use Rattle.std.specs.Prelude.{if◌then◌else◌};
 ghost use Rattle.ssim_base.specs.Export.{line};
 ghost use Rattle.ssim_program.specs.Receiving.{beginning_text, is_refused, is_repeated, is_taken};
 ghost use Rattle.ssim_program.specs.Receiving.{receipt_text, refused_text, total_text};
-ghost use Rattle.ssim_program.specs.internal.Receive.{AddsOne, AreReceipts, HaveLines, receipt_of};
+ghost use Rattle.ssim_program.specs.internal.Receive.{AddsOne, AreReceipts, HasRefused, HaveLines};
+ghost use Rattle.ssim_program.specs.internal.Receive.{receipt_of};
 
 use crate::command::take::printed;
 use crate::print::name::printed_name;
@@ -228,6 +229,13 @@ impl Receipts {
         };
         push_line(alloc, &mut self.lines, &receipt)?;
         push_refused(&mut self.texts, receipt)
+    }
+
+    /// Whether a text was refused, or a file was not read.
+    pub(crate) fn has_refused(&self) -> bool
+        ensures { HasRefused self.now result }
+    {
+        self.counts.refused > 0
     }
 
     /// The lines of the receipts and the line that counts them, and the refused texts.

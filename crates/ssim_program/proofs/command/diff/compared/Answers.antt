@@ -1,5 +1,5 @@
 -- The data sets are of one airline and one time mode, or not; and the words make a choice, or not.
-use Rattle.std.proofs.Common.{◌≡◌, ◌∙◌, Err, List, ℕ, Ok, ap, inl, inr, map, refl, rules, subst}
+use Rattle.std.proofs.Common.{◌≡◌, ◌∙◌, Bool, Err, List, ℕ, Ok, ap, ap₂, inl, inr, map, refl, rules, subst}
 use Rattle.ssim_desk.specs.Desk.{days_of_desk}
 use Rattle.ssim_command_line.specs.Line.{choice_line}
 use Rattle.ssim_difference.specs.ChosenDates.{chosen_side}
@@ -58,10 +58,13 @@ returns c before has =
             subst (λ (a : List ℕ). choice_in a (choice_line c.args.words.now.choice.now)
                 (map (λ t. t.now) c.args.words.now.flights.now) (Ok choice)) c.airline-airline.ensures
                 c.in_ok-choice.ensures,
-            c.in_ok-lines.ensures old new (c.deref.ensures.value ∙ has.flights_are)
+            ap₂ (λ (lines : List ℕ) (found : Bool). (lines, found))
+                (c.in_ok-report.ensures.lines old new (c.deref.ensures.value ∙ has.flights_are)
                 (c.deref-2.ensures.value ∙ c.in_ok-new.ensures.flights_are)
                 ∙ ap (λ (a : List ℕ). printed_difference c.args.words.now.form a (chosen_side choice old new old)
-                (chosen_side choice old new new)) c.airline-airline.ensures,
+                (chosen_side choice old new new)) c.airline-airline.ensures)
+                (c.in_ok-report.ensures.found old new (c.deref.ensures.value ∙ has.flights_are)
+                (c.deref-2.ensures.value ∙ c.in_ok-new.ensures.flights_are)),
           ),
         ),
       ),

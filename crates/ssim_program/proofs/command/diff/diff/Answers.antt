@@ -1,20 +1,21 @@
 -- Both timetables are read and compared, or not.
-use Rattle.std.proofs.Common.{◌≡◌, Err, List, map, ℕ, Ok, Option, Result, Vec, inl, inr, rules, subst}
+use Rattle.std.proofs.Common.{◌≡◌, Err, List, map, Ok, Option, Result, inl, inr, rules, subst}
 use Rattle.ssim_program.specs.Answers.{diff, differences}
 use Rattle.ssim_program.specs.Files.{Files}
 use Rattle.ssim_program.specs.Timetables.{ReadsTimetable, RefusesTimetable}
-use Rattle.ssim_program.specs.internal.Program.{Answers}
+use Rattle.ssim_program.specs.internal.Program.{Reports}
 use Rattle.ssim_held.specs.Entries.{DeskSeen}
 use Rattle.ssim_command_line.specs.Line.{ChoiceTexts, Text, choice_line}
 use Rattle.ssim_command_line.specs.declared.command_line.DiffForm.{DiffForm}
+use Rattle.ssim_program.specs.declared.made.Report.{Report}
 use Rattle.ssim_program.specs.declared.refusal.Refusal.{Refusal}
 use Rattle.ssim_program.proofs.command.diff.diff.Goals as goal
 
-both : {A : Type 0} (files : Option Files) (form : DiffForm) (words : ChoiceTexts) (from to : Text) (flights : List Text)
-    (old new : DeskSeen) (r : Result (Vec ℕ A) Refusal) → ReadsTimetable files from old
-    → ReadsTimetable files to new → Answers (differences form words flights old new) r
-    → Answers (diff files form words from to flights) r
-both files form words from to flights old new (Ok lines) mine theirs differ =
+both : (files : Option Files) (form : DiffForm) (words : ChoiceTexts) (from to : Text) (flights : List Text)
+    (old new : DeskSeen) (r : Result Report Refusal) → ReadsTimetable files from old
+    → ReadsTimetable files to new → Reports (differences form words flights old new) r
+    → Reports (diff files form words from to flights) r
+both files form words from to flights old new (Ok report) mine theirs differ =
     (old, mine, (new, theirs, differ))
 both files form words from to flights old new (Err why) mine theirs differ =
     inr (old, mine, inr (new, theirs, differ))

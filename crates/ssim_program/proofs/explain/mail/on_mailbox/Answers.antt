@@ -9,7 +9,8 @@ returns c = (
   map tried_of c.args.texts.now,
   map-map (λ t. t.0) tried_of c.args.texts.now ∙ c.requires.texts,
   c.requires.tried,
+  c.any_is_none-found.ensures,
   c.deref.result.now,
   c.in_ok-extend_from_slice.ensures.items
-      ∙ ap (λ (t : List ℕ). t ++ c.deref.result.now) c.in_ok-text.ensures,
+      ∙ ap (λ (t : List ℕ). t ++ c.deref.result.now) c.in_ok-lines.ensures,
 )
