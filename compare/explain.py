@@ -7,6 +7,7 @@ command refuses the file for nothing that is within it. Of a mailbox it has to c
 these has to have its refusal, with the line of the file.
 """
 import os
+import re
 import shutil
 
 import mail
@@ -133,3 +134,6 @@ def compared(_, room, kind):
     first = [lines[0][:6]] if wanted == ["valid "] else [lines[0], *[line for line in lines[1:] if line.startswith("refused ")]]
     room.counts[f"{kind}: {wanted[0].split(' ')[0]}"] += 1
     yield "explain broken", (answer.status, first, answer.err), (0, wanted, "")
+    asked = room("explain", "broken", "--status")
+    found = wanted != ["valid "] and not re.fullmatch(r"mailbox texts \d+ refused 0", wanted[0])
+    yield "explain --status broken", asked, answer._replace(status=3 if found else 0)

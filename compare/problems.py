@@ -113,4 +113,5 @@ def compared(_, room, data):
     wanted = expected(room.peer, data)
     room.counts["problems"] += len(wanted) - 1
     yield "problems", room("problems", "data"), said(wanted)
+    yield "problems --status", room("problems", "data", "--status"), said(wanted)._replace(status=3 if wanted[:-1] else 0)
     yield "problems --csv", room("problems", "--csv", "data"), said(["number,name,record,column", *map(as_row, wanted[:-1])])

@@ -119,9 +119,11 @@ def of_order(rng, room, start, texts):
     expected.append(f"taken {words['taken']} repeated {words['repeated']} refused {words['refused']}")
     room.write("received.desk", start)
     room.write("back", b"")
-    answer = room("receive", "--refused", "back", "received.desk", "received.desk", *names)
+    status = rng.choice([[], ["--status"]])
+    answer = room("receive", *status, "--refused", "back", "received.desk", "received.desk", *names)
     back = b"".join(b"\n".join(lines_of(text) + [b"NNNN", b""]) for text, said in zip(tried, answers) if said.startswith("refused"))
-    return [("receive", answer, said(expected)),
+    wanted = said(expected)._replace(status=3 if status and words["refused"] else 0)
+    return [("receive", answer, wanted),
             ("desk file", room.read("received.desk"), room.read("taken.desk")), ("refused texts", room.read("back"), back)], answers
 
 

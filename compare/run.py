@@ -2,7 +2,7 @@
 """Compares a program with a plain model on seeded cases: run.py MODEL PROGRAM [--cases N] [--seed N] [--kind KIND] [--jobs N] [PEER]
 
 MODEL is a module of this folder, whose doc string says what is compared. `carry`, `convert`, `days`, `explain`, `parts`, `publish`,
-`receive`, `split`, `views` and `words` know by themselves what the program must print; `commands`, `data_sets`, `desk_files` and `problems` ask PEER,
+`receive`, `since`, `split`, `views` and `words` know by themselves what the program must print; `commands`, `data_sets`, `desk_files` and `problems` ask PEER,
 another program of the same requirement.
 
 Each of N (200) cases has a folder of its own, and a random number generator by the seed (1) and its number. The model makes a case of KIND,
@@ -24,7 +24,7 @@ sys.path.insert(0, os.path.join(os.path.dirname(os.path.dirname(os.path.abspath(
 
 from room import Answer, Room
 
-MODELS = ["carry", "convert", "days", "explain", "parts", "publish", "receive", "split", "views", "words"]
+MODELS = ["carry", "convert", "days", "explain", "parts", "publish", "receive", "since", "split", "views", "words"]
 WITH_PEER = ["commands", "data_sets", "desk_files", "problems"]
 SHOWN = 5
 

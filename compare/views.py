@@ -12,7 +12,8 @@ board, in its order.
 
 A case of `changes` has two files FROM and TO, as in `days`. `diff` with a choice has to print what follows from the dates that differ and of
 which the itinerary in FROM or that in TO is chosen, each taken or left by itself; and `diff --summary` how many of them are of each kind, which
-add up, and turned round are the same but for `added` and `cancelled`. In a case of `change words` some words are invalid.
+add up, and turned round are the same but for `added` and `cancelled`. With `--status` the status has to be 3 if there are such dates. In a case
+of `change words` some words are invalid.
 
 A case of `spans` has a desk with some messages, whose dates the model of `carry` finds in the desk file. With a span `findings` has to count what
 `history` says of each of these dates, and `texts` has to print the messages that follow from them. `findings` to a date and from the next one
@@ -21,6 +22,7 @@ on have together the numbers of all. In a case of `span words` some words of the
 In a case of `info` the file is a data set or a desk with some messages. What `info` prints has to follow from its carrier record, its lines
 and its flight dates; and where it is refused, `list` is refused for the same.
 """
+import collections
 import copy
 import datetime
 import re
@@ -34,7 +36,7 @@ from chapter7 import DAY, FILL, OPEN_END, date, dates_of
 from flight_dates import Timetable, board, calendar, differing, listed, listed_dates, rows
 from room import Answer, said
 
-KINDS = ["choice", "choice", "choice", "several", "boards", "words", "spans", "spans", "span words", "info", "changes", "changes", "changes",
+KINDS = ["choice", "choice", "choice", "several", "boards", "words", "spans", "spans", "span words", "info", "stations", "changes", "changes", "changes",
          "change words"]
 REASONS = ["acted", "absent", "present", "leg", "station"]
 # The most dates that are looked at one by one.
@@ -216,6 +218,8 @@ def of_summary(room, words, old, new):
     for line in lines[:-1]:
         room.counts[f"changes: {line.split()[0]}"] += 1
     yield f"diff --summary {words}", answer, said(lines)
+    wanted = said(lines)._replace(status=0 if lines == ["same"] else 3)
+    yield f"diff --summary --status {words}", room("diff", "--summary", *words, "--status"), wanted
     dates = [int(line.split()[-1]) for line in printed(answer) if line != "same"]
     yield f"dates of diff --summary {words}", sum(dates[:-1]), sum(dates[-1:])
     turned = {"added": "cancelled", "cancelled": "added"}
@@ -244,6 +248,8 @@ def of_changes(rng, room):
         wanted = differing(*taken_of_both(old, new, chosen))
         room.counts["all changes" if wanted == whole else "no change" if wanted == ["same"] else "some changes"] += 1
         yield f"diff {before} {after}", room("diff", *before, "FROM", "TO", *after), said(wanted)
+        found = said(wanted)._replace(status=0 if wanted == ["same"] else 3)
+        yield f"diff --status {before} {after}", room("diff", *before, "FROM", "--status", "TO", *after), found
         yield from of_summary(room, [*before, "FROM", "TO", *after], *taken_of_both(old, new, chosen))
 
 
@@ -492,7 +498,63 @@ def of_info(room):
     yield "info FILE", answer, said(wanted)
 
 
+# ---- stations
+
+GAP = 28 * DAY
+
+
+def heard(table):
+    """What the ends of legs say of each station on each date of origin: the UTC variations, with repetition, of the ends on that date, or else
+    of all ends."""
+    own, every = collections.defaultdict(list), collections.defaultdict(list)
+    for days in table.flights.values():
+        for day, legs in days.items():
+            for leg in legs:
+                for station, variation, shift in ((37, 48, 193), (55, 66, 194)):
+                    said_here = leg.at(variation, variation + 4)
+                    if said_here.strip():
+                        place = leg.at(station, station + 2), day
+                        every[place].append(said_here)
+                        if leg.at(shift, shift) in "0 ":
+                            own[place].append(said_here)
+    return {place: own.get(place) or found for place, found in every.items()}
+
+
+def station_rows(table):
+    """The lines of `stations`."""
+    said_by = collections.defaultdict(dict)
+    for (station, day), found in heard(table).items():
+        said_by[station][day] = min(set(found), key=lambda variation: (-found.count(variation), variation))
+    lines = []
+    for station, days in sorted(said_by.items()):
+        parts = []
+        for day in sorted(days):
+            if parts and parts[-1][2] == days[day] and day - parts[-1][1] <= GAP:
+                parts[-1][1] = day
+            else:
+                parts.append([day, day, days[day]])
+        lines += [f"{station} {date(first)} {date(last)} {variation}" for first, last, variation in parts]
+    return lines
+
+
+def of_stations(room):
+    """What is compared of the station table that the legs say; and `start` takes it."""
+    whole = room.exported("FILE")
+    if whole is None:
+        room.counts["not exported"] += 1
+        return
+    answer, wanted = room("stations", "FILE"), station_rows(Timetable(whole))
+    room.counts["stations with rows" if wanted else "stations without a row"] += 1
+    yield "stations FILE", answer, said(wanted)
+    room.write("mine", answer.out)
+    room.write("part", whole)
+    yield "start with what stations prints", room("start", "part", "mine", "new"), said(["held 0"])
+
+
 def compared(rng, room, kind):
+    if kind == "stations":
+        yield from of_stations(room)
+        return
     if kind == "info":
         yield from of_info(room)
         return
