@@ -1,6 +1,6 @@
 -- The flights of a timetable as CSV, in the words of the crate `csv`.
 use Rattle.std.specs.Prelude.{ℕ, ◌+◌, ◌-◌, List, [], ◌∷◌, ◌++◌, map, take, drop, codes}
-use Rattle.std.specs.Prelude.{if◌then◌else◌}
+use Rattle.std.specs.Prelude.{if◌then◌else◌, replicate}
 use Rattle.std.specs.List.{flat_map}
 use Rattle.std.specs.Str.{bytes_eq}
 use Rattle.csv.specs.Records.{trimmed}
@@ -20,16 +20,19 @@ use Rattle.ssim_listing.specs.Lines.{flight_name}
 abbrev pub row : List (List ℕ) → List ℕ
 row fields = row_text default_writer (map trimmed fields)
 
--- the names of the columns
-abbrev pub header : List (List ℕ)
-header =
-    codes "flight" ∷ codes "first" ∷ codes "last" ∷ codes "days" ∷ codes "leg"
-    ∷ codes "from" ∷ codes "passenger_departure" ∷ codes "departure"
+-- the names of the fields of a leg
+abbrev pub leg_names : List (List ℕ)
+leg_names =
+    codes "leg" ∷ codes "from" ∷ codes "passenger_departure" ∷ codes "departure"
     ∷ codes "departure_utc_variation"
     ∷ codes "to" ∷ codes "arrival" ∷ codes "passenger_arrival" ∷ codes "arrival_utc_variation"
     ∷ codes "departure_date_variation" ∷ codes "arrival_date_variation"
     ∷ codes "service" ∷ codes "aircraft" ∷ codes "bookings" ∷ codes "configuration"
     ∷ codes "departure_terminal" ∷ codes "arrival_terminal" ∷ []
+
+-- the names of the columns
+abbrev pub header : List (List ℕ)
+header = codes "flight" ∷ codes "first" ∷ codes "last" ∷ codes "days" ∷ leg_names
 
 -- a date from 2000 to 2099 as in 2027-03-28
 abbrev pub iso_date : ℕ → List ℕ
@@ -63,6 +66,10 @@ leg_fields leg =
 -- the row of a leg, after the fields of its flight and its dates
 abbrev pub leg_row : List (List ℕ) → LegValue → List ℕ
 leg_row head leg = row (head ++ leg_fields leg)
+
+-- the row without a leg: as many empty fields as a leg has
+abbrev pub no_leg_row : List (List ℕ) → List ℕ
+no_leg_row head = row (head ++ replicate 17 [])
 
 -- the fields of a flight with this name and a period
 abbrev pub period_head : List ℕ → DayRange → List (List ℕ)

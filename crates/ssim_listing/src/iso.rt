@@ -6,7 +6,7 @@ ghost use Rattle.ssim_listing.specs.Rows.{colon, iso_date, iso_time};
 use ssim_values::{Day, read_month, write_two_digits};
 
 /// A date as in `2027-03-28`.
-pub(crate) fn iso_date(day: Day) -> [u8; 10]
+pub fn iso_date(day: Day) -> [u8; 10]
     ensures { result ≡ iso_date day }
 {
     let [d1, d2, m1, m2, m3, y1, y2] = day.write();
@@ -18,7 +18,7 @@ pub(crate) fn iso_date(day: Day) -> [u8; 10]
 }
 
 /// A time as in `17:30`, of four characters without the colon. A blank time stays blank.
-pub(crate) fn iso_time(text: &[u8]) -> [u8; 5]
+pub fn iso_time(text: &[u8]) -> [u8; 5]
     requires { length text.now ≡ 4 }
     ensures { result ≡ iso_time text.now }
 {

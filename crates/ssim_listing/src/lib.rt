@@ -3,6 +3,9 @@
 //! - [`listing`]: each flight with its periods, and a line for each leg of each period.
 //! - [`dated_listing`]: a line for each flight, date and leg.
 //! - [`csv_listing`], [`dated_csv_listing`]: the same as CSV, a row for each period or date and leg.
+//! - [`push_row`]: a row of CSV of any fields; [`push_leg_names`], [`push_leg_row`] and
+//!   [`push_no_leg`]: the rows of legs after other fields. [`iso_date`] and [`iso_time`] are dates and
+//!   times as fields.
 //! - [`name_of`]: a flight as its designator.
 //! - [`push_leg_text`]: a leg as one line, which shows some of its columns; [`is_like_one`]: whether
 //!   a leg differs from another one that has the same line; [`LegGroups`]: the same of many legs, by
@@ -15,6 +18,7 @@
 //! is what the crate `csv` writes of the fields.
 #![tactic(auto)]
 
+mod added_row;
 mod dates;
 mod division;
 mod groups;
@@ -25,7 +29,9 @@ mod marks;
 mod row_writer;
 mod rows;
 
+pub use added_row::{push_leg_names, push_leg_row, push_no_leg, push_row};
 pub use groups::{LegGroup, LegGroups, add_leg, are_mixed};
+pub use iso::{iso_date, iso_time};
 pub use leg_text::{push_leg_text, push_sequence, push_shown};
 pub use lines::{dated_listing, listing, name_of, push_period};
 pub use marks::{is_like, is_like_one, mark_of};

@@ -1,6 +1,6 @@
 //! The flights of a timetable as CSV.
 
-ghost use Rattle.std.specs.Prelude.{◌≡◌, ◌++◌, ◌+◌, ◌∷◌, [], ℕ, List, IfOk, IsTrue, OnOk};
+ghost use Rattle.std.specs.Prelude.{◌≡◌, ◌++◌, ◌+◌, ◌∷◌, [], ℕ, List, IfOk, IsTrue, OnOk, map};
 ghost use Rattle.ssim_records.specs.clauses.Leg.{is_own};
 ghost use Rattle.ssim_listing.specs.Lines.{flight_name};
 ghost use Rattle.ssim_listing.specs.Rows.{csv_listing, date_rows, dated_csv_listing, header};
@@ -23,12 +23,11 @@ use ssim_schedule::{FlightPieces, Itinerary, PlacedLeg};
 use ssim_values::{Airline, Day, Memory, Period, write_two_digits};
 use std::alloc::Global;
 
-/// The names of the columns.
-const HEADER: [&[u8]; 21] = [
-    b"flight",
-    b"first",
-    b"last",
-    b"days",
+/// The names of the fields of a flight and its dates.
+const FLIGHT_NAMES: [&[u8]; 4] = [b"flight", b"first", b"last", b"days"];
+
+/// The names of the fields of a leg.
+pub(crate) const LEG_NAMES: [&[u8]; 17] = [
     b"leg",
     b"from",
     b"passenger_departure",
@@ -112,7 +111,7 @@ fn headed_writer(alloc: Global) -> Result<RowWriter, Memory>
     ensures { IfOk result (λ rows. HasWritten rows (row header)) }
 {
     let mut rows = new_writer(alloc);
-    put_row(alloc, &mut rows, &HEADER)?;
+    put_row(alloc, &mut rows, &FLIGHT_NAMES, &LEG_NAMES)?;
     Ok(rows)
 }
 
@@ -187,41 +186,52 @@ impl Rowed<Head<'_>> for PlacedLeg {
         leg_row (head.name.now ∷ head.first.now ∷ head.last.now ∷ head.days.now ∷ []) leg };
 
     fn put(&self, head: &Head<'_>, rows: &mut RowWriter) -> Result<(), Memory> {
-        let sequence = write_two_digits(self.sequence());
-        let columns = self.columns();
-        let passenger_departure = time_of(&columns, PASSENGER_DEPARTURE);
-        let departure = time_of(&columns, AIRCRAFT_DEPARTURE);
-        let arrival = time_of(&columns, AIRCRAFT_ARRIVAL);
-        let passenger_arrival = time_of(&columns, PASSENGER_ARRIVAL);
-        let (departs, arrives) = columns.text(DATE_VARIATIONS).split_at(1);
-        put_row(
-            head.alloc,
-            rows,
-            &[
-                head.name,
-                head.first,
-                head.last,
-                head.days,
-                &sequence,
-                columns.text(DEPARTURE_STATION),
-                &passenger_departure,
-                &departure,
-                columns.text(DEPARTURE_VARIATION),
-                columns.text(ARRIVAL_STATION),
-                &arrival,
-                &passenger_arrival,
-                columns.text(ARRIVAL_VARIATION),
-                departs,
-                arrives,
-                columns.text(SERVICE_TYPE),
-                columns.text(AIRCRAFT_TYPE),
-                columns.text(BOOKING_DESIGNATORS),
-                columns.text(CONFIGURATION),
-                columns.text(DEPARTURE_TERMINAL),
-                columns.text(ARRIVAL_TERMINAL),
-            ],
-        )
+        let fields = [head.name, head.first, head.last, head.days];
+        put_leg(head.alloc, rows, &fields, self)
     }
+}
+
+/// Writes the row of a leg, after these fields.
+pub(crate) fn put_leg(
+    alloc: Global,
+    rows: &mut RowWriter,
+    head: &[&[u8]],
+    leg: &PlacedLeg,
+) -> Result<(), Memory>
+    ensures { OnOk result ((before : List ℕ) → HasWritten rows.old before
+        → HasWritten rows.new (before ++ leg_row (map (λ f. f.now) head.now) leg.now)) }
+{
+    let sequence = write_two_digits(leg.sequence());
+    let columns = leg.columns();
+    let passenger_departure = time_of(&columns, PASSENGER_DEPARTURE);
+    let departure = time_of(&columns, AIRCRAFT_DEPARTURE);
+    let arrival = time_of(&columns, AIRCRAFT_ARRIVAL);
+    let passenger_arrival = time_of(&columns, PASSENGER_ARRIVAL);
+    let (departs, arrives) = columns.text(DATE_VARIATIONS).split_at(1);
+    put_row(
+        alloc,
+        rows,
+        head,
+        &[
+            &sequence,
+            columns.text(DEPARTURE_STATION),
+            &passenger_departure,
+            &departure,
+            columns.text(DEPARTURE_VARIATION),
+            columns.text(ARRIVAL_STATION),
+            &arrival,
+            &passenger_arrival,
+            columns.text(ARRIVAL_VARIATION),
+            departs,
+            arrives,
+            columns.text(SERVICE_TYPE),
+            columns.text(AIRCRAFT_TYPE),
+            columns.text(BOOKING_DESIGNATORS),
+            columns.text(CONFIGURATION),
+            columns.text(DEPARTURE_TERMINAL),
+            columns.text(ARRIVAL_TERMINAL),
+        ],
+    )
 }
 
 // A time of a leg, as in 17:30.

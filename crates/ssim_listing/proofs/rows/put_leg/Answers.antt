@@ -1,15 +1,15 @@
 -- Each field is that of the leg.
-use Rattle.std.proofs.Common.{◌≡◌, ◌∙◌, ◌++◌, ◌∷◌, [], List, ℕ, OnOk, ap, drop, length, subst, take, arith}
+use Rattle.std.proofs.Common.{◌≡◌, ◌∙◌, ◌++◌, ◌∷◌, [], List, ℕ, OnOk, ap, drop, length, map, subst, take, arith}
 use Rattle.ssim_values.specs.Characters.{two_digits}
 use Rattle.ssim_records.specs.Leg.{leg_columns}
 use Rattle.ssim_listing.specs.Rows.{row, time_field}
 use Rattle.ssim_listing.specs.internal.Written.{HasWritten}
-use Rattle.ssim_listing.proofs.rows.PlacedLegRowedHead.put.Goals as goal
+use Rattle.ssim_listing.proofs.rows.put_leg.Goals as goal
 
 pub returns : goal.returns
 returns c =
     let own = c.columns-columns.ensures in
-    let head = c.args.head.now in
+    let head = map (λ f. f.now) c.args.head.now in
     let sequence = c.write_two_digits-sequence.ensures ∙ ap two_digits c.sequence.ensures.value in
     let both = c.text.ensures.value ∙ ap (leg_columns 193 194) own in
     let departs = c.split_at.ensures.front ∙ ap (take 1) both in
@@ -29,8 +29,8 @@ returns c =
     let departure_terminal = c.text-10.ensures.value ∙ ap (leg_columns 53 54) own in
     let arrival_terminal = c.text-11.ensures.value ∙ ap (leg_columns 71 72) own in
     subst (λ (fields : List (List ℕ)). OnOk c.put_row.result ((before : List ℕ) → HasWritten c.args.rows.now before
-    → HasWritten c.put_row.new.rows (before ++ row fields)))
-    (λ k. head.name.now ∷ head.first.now ∷ head.last.now ∷ head.days.now ∷ (sequence k ∷ from k ∷ passenger_departure k ∷ departure k ∷ departure_variation k
+    → HasWritten c.put_row.new.rows (before ++ row (head ++ fields))))
+    (λ k. (sequence k ∷ from k ∷ passenger_departure k ∷ departure k ∷ departure_variation k
     ∷ to k ∷ arrival k ∷ passenger_arrival k ∷ arrival_variation k ∷ departs k ∷ arrives k ∷ service k
     ∷ aircraft k ∷ bookings k ∷ configuration k ∷ departure_terminal k ∷ arrival_terminal k ∷ []))
     c.put_row.ensures
