@@ -4,6 +4,7 @@ pub mod Movements
 pub mod InOrder
 pub mod Kinds
 pub mod Lines
+pub mod Rows
 pub mod clauses
 pub mod examples
 pub mod internal

@@ -5,7 +5,8 @@
 //! - [`Movement`]: a departure or an arrival of a leg ([`MovementKind`]), with its local time, its
 //!   flight, and the other station of the leg.
 //! - [`of_kind`]: the departures or the arrivals alone.
-//! - [`board_lines`]: a line for each departure and arrival on a board.
+//! - [`board_lines`]: a line for each departure and arrival on a board. [`push_movements`] adds a row
+//!   of CSV for each, and [`movement_names`] is the row of names.
 //! - [`LocalTime`]: a day and a time of day at a station. The day may be beside the calendar.
 //! - [`laws`]: only dates of origin near the date of a board have something on it; a movement is a
 //!   departure or an arrival.
@@ -27,10 +28,12 @@ mod leg_times;
 mod lines;
 mod local_time;
 mod movement;
+mod rows;
 
 pub use board::Board;
 pub use kinds::of_kind;
 pub use lines::board_lines;
 pub use local_time::LocalTime;
 pub use movement::{Movement, MovementKind};
+pub use rows::{movement_names, push_movements};
 pub use ssim_values::Memory;

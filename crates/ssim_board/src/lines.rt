@@ -60,7 +60,7 @@ fn push_flight(lines: &mut Vec<u8>, airline: Airline, movement: &Movement) -> Re
 }
 
 // A departure or an arrival in three letters.
-fn kind_text(kind: MovementKind) -> &'static [u8]
+pub(crate) fn kind_text(kind: MovementKind) -> &'static [u8]
     ensures { result.now ≡ kind_text kind }
 {
     match kind {
@@ -117,7 +117,7 @@ fn push_shift(lines: &mut Vec<u8>, date: Day, time: LocalTime) -> Result<(), Mem
 }
 
 // Adds a sign and a number.
-fn push_number(lines: &mut Vec<u8>, sign: &[u8], number: u16) -> Result<(), Memory>
+pub(crate) fn push_number(lines: &mut Vec<u8>, sign: &[u8], number: u16) -> Result<(), Memory>
     ensures { OnOk result (lines.new.items ≡ lines.old.items ++ (sign.now ++ decimal number)) }
 {
     lines.extend_from_slice(sign)?;
