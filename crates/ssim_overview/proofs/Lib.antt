@@ -7,6 +7,7 @@ pub mod SaidColumns
 pub mod SaidCut
 pub mod SaidMost
 pub mod SaidDays
+pub mod SaidSpan
 pub mod SaidSteps
 pub mod SaidHalves
 pub mod SaidStations

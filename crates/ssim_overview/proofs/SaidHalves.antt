@@ -110,7 +110,7 @@ dates_meet from end sayings some le is =
     (λ n. said (held_on sayings n)) from (end - from)
     (λ n low high. ap said (held_meets from end n sayings low (omega arith)))
 
-dates_halves : (from middle end : ℕ) (sayings : List Dated) → from ≤ middle → middle ≤ end
+pub dates_halves : (from middle end : ℕ) (sayings : List Dated) → from ≤ middle → middle ≤ end
     → dates_said sayings from (middle - from) ++ dates_said sayings middle (end - middle)
     ≡ dates_said sayings from (end - from)
 dates_halves from middle end sayings le less =

@@ -90,7 +90,7 @@ fn ranked(
     requires within { high ≤ 17576 }
     ensures { IfOk result (λ found. found.items ≡ filter (is_ranked low high) sayings.now) }
 {
-    let mut found = Vec::new(alloc);
+    let mut found = Vec::with_capacity(alloc, sayings.len())?;
     for saying in sayings {
         if is_between(saying.1.station, low, high) {
             found.push(*saying)?;

@@ -1,6 +1,7 @@
 //! The rows of one station: its dates, cut where its variation changes or nothing is said for long.
 
-ghost use Rattle.std.specs.Prelude.{◌≡◌, ◌≤◌, ◌<◌, ◌-◌, IfOk, OnOk, [], filter, length, min, map};
+ghost use Rattle.std.specs.Prelude.{◌≡◌, ◌≤◌, ◌<◌, ◌-◌, ◌⊎◌, ℕ, IfOk, OnOk, [], filter, length, min};
+ghost use Rattle.std.specs.Prelude.{map};
 ghost use Rattle.std.specs.List.{list_all, range_with_len};
 ghost use Rattle.std.specs.Option.{option_to_list};
 ghost use Rattle.ssim_periods.specs.Calendar.{holds};
@@ -90,8 +91,28 @@ pub(crate) fn station_rows(
         (λ rows. rows.items ≡ grown station [] (dates_said sayings.now 0 36525)) }
 {
     let mut rows = Vec::new(alloc);
-    push_days(alloc, &mut rows, station, sayings, 0, DAYS)?;
+    let (from, end) = span(sayings);
+    if from < end {
+        push_days(alloc, &mut rows, station, sayings, from, end)?;
+    }
     Ok(rows)
+}
+
+// The first day on which something is said, and the day after the last one.
+fn span(sayings: &[(Period, Saying)]) -> (u32, u32)
+    ensures others { (n : ℕ) → (n < result.0) ⊎ (result.1 ≤ n) → held_on sayings.now n ≡ [] }
+    ensures within { result.1 ≤ 36525 }
+{
+    let mut from = DAYS;
+    let mut end = 0;
+    for saying in sayings {
+        from = from.min(saying.0.first().number() as u32);
+        let last = saying.0.last().number() as u32;
+        if end <= last {
+            end = last + 1;
+        }
+    }
+    (from, end)
 }
 
 // Adds the dates from a day to the one before an end: half by half, until no period begins or is over
@@ -152,7 +173,7 @@ fn between(
 ) -> Result<Vec<(Period, Saying)>, Memory>
     ensures { IfOk result (λ found. found.items ≡ filter (λ saying. meets from end saying.0) sayings.now) }
 {
-    let mut found = Vec::new(alloc);
+    let mut found = Vec::with_capacity(alloc, sayings.len())?;
     for saying in sayings {
         if meets(&saying.0, from, end) {
             found.push(*saying)?;
