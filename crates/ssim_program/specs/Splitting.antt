@@ -1,7 +1,7 @@
 -- A data set of several carriers, of which each section is kept as a data set or is refused.
-use Rattle.std.specs.Prelude.{◌≡◌, ◌⊎◌, ℕ, ◌+◌, ◌-◌, ◌<◌, Bool, true, false, if◌then◌else◌, zero, suc}
-use Rattle.std.specs.Prelude.{List, [], ◌∷◌, ◌++◌, codes, length, map}
-use Rattle.std.specs.Prelude.{Option, Some, None, Result, Ok, Err}
+use Rattle.std.specs.Prelude.{◌≡◌, ◌⊎◌, ℕ, ◌+◌, ◌-◌, Bool, true, false, zero, suc}
+use Rattle.std.specs.Prelude.{List, [], ◌∷◌, ◌++◌, codes, length}
+use Rattle.std.specs.Prelude.{Option, Some, None, Ok, Err}
 use Rattle.std.specs.Fmt.{decimal}
 use Rattle.std.specs.List.{count_by, flat_map}
 use Rattle.std.specs.Str.{bytes_eq}
@@ -28,7 +28,7 @@ use Rattle.ssim_program.specs.Files.{Files, IsOpened, with_kept}
 use Rattle.ssim_program.specs.Made.{RefusesWithin, note_line}
 use Rattle.ssim_program.specs.Places.{place_in}
 use Rattle.ssim_program.specs.print.Names.{printed_name}
-use Rattle.ssim_program.specs.print.Refusal.{IsMemory, IsOfFile, refusal_text}
+use Rattle.ssim_program.specs.print.Refusal.{IsMemory, refusal_text}
 use Rattle.ssim_program.specs.declared.content_kind.ContentKind.TheVariants as kind
 use Rattle.ssim_program.specs.declared.refusal.Refusal.{Refusal}
 use Rattle.ssim_program.specs.declared.refusal.Refusal.TheVariants as refused
