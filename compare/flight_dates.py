@@ -11,9 +11,11 @@ from chapter7 import DAY, FILL, OPEN_END, date, dates_of, day_of
 
 WEEKDAYS = "1234567"
 FINDING = re.compile(r"((?:SSM|ASM) \S{7} \d{5} \d{3}(?: \S{7})?) \d+ (\S+) (\S+) (acted .*)")
-HEADER = ("flight,first,last,days,leg,from,passenger_departure,departure,departure_utc_variation,to,arrival,passenger_arrival,"
-          "arrival_utc_variation,departure_date_variation,arrival_date_variation,service,aircraft,bookings,configuration,"
-          "departure_terminal,arrival_terminal")
+LEG_NAMES = ("leg,from,passenger_departure,departure,departure_utc_variation,to,arrival,passenger_arrival,arrival_utc_variation,"
+             "departure_date_variation,arrival_date_variation,service,aircraft,bookings,configuration,departure_terminal,arrival_terminal")
+HEADER = "flight,first,last,days," + LEG_NAMES
+BOARD_NAMES = "station,date,time,movement,flight,origin_date,leg,aircraft,other_station,other_time,other_days,warning"
+DIFF_NAMES = "flight,first,last,days,change,side," + LEG_NAMES
 
 
 class Leg(collections.namedtuple("Leg", "columns tails")):
@@ -136,11 +138,23 @@ def rows(table, flights=None, dates=False):
 
 
 def row(designator, period, leg):
+    return cells(period_fields(designator, period) + leg_fields(leg))
+
+
+def period_fields(designator, period):
     first, last, weekdays = period
     days = "".join(digit for place, digit in enumerate(WEEKDAYS) if place in weekdays)
-    fields = [designator, first.isoformat(), last.isoformat(), days, leg.sequence, leg.at(37, 39), clock(leg.at(40, 43)), clock(leg.at(44, 47)),
-              leg.at(48, 52), leg.at(55, 57), clock(leg.at(58, 61)), clock(leg.at(62, 65)), leg.at(66, 70), leg.at(193, 193), leg.at(194, 194),
-              leg.at(14, 14), leg.at(73, 75), leg.at(76, 95), leg.at(173, 192), leg.at(53, 54), leg.at(71, 72)]
+    return [designator, first.isoformat(), last.isoformat(), days]
+
+
+def leg_fields(leg):
+    return [leg.sequence, leg.at(37, 39), clock(leg.at(40, 43)), clock(leg.at(44, 47)), leg.at(48, 52),
+            leg.at(55, 57), clock(leg.at(58, 61)), clock(leg.at(62, 65)), leg.at(66, 70), leg.at(193, 193), leg.at(194, 194),
+            leg.at(14, 14), leg.at(73, 75), leg.at(76, 95), leg.at(173, 192), leg.at(53, 54), leg.at(71, 72)]
+
+
+def cells(fields):
+    """A row of CSV of these fields."""
     return ",".join(quoted(field.strip(" ")) for field in fields)
 
 
@@ -170,6 +184,11 @@ def movement(table, leg, day, arrives):
 
 def board(table, station, day):
     """The lines of `board`."""
+    return [line for line, _ in movements(table, station, day)] or ["no flight"]
+
+
+def movements(table, station, day):
+    """The lines of `board` and their rows of CSV, in order."""
     found = []
     for flight, days in table.flights.items():
         for origin, legs in days.items():
@@ -179,7 +198,7 @@ def board(table, station, day):
                 ends = [movement(table, leg, origin, arrives) for arrives in (False, True)]
                 found += [board_entry(table, flight, origin, leg, ends, arrives, day)
                           for arrives in (False, True) if ends[arrives][:2] == (station, day)]
-    return [line for _, line in sorted(found)] or ["no flight"]
+    return [shown for _, *shown in sorted(found)]
 
 
 def board_entry(table, flight, origin, leg, ends, arrives, day):
@@ -187,8 +206,11 @@ def board_entry(table, flight, origin, leg, ends, arrives, day):
     apart = (there[1] - day).days
     line = (f"{here[2]} {'arr' if arrives else 'dep'} {table.designator(flight):8} {date(origin)} {leg.sequence} "
             f"{leg.at(73, 75).replace(' ', '.')} {there[0]} {there[2]}")
-    line += (f" {apart:+}" if apart else "") + " ?" * (here[3] or there[3])
-    return (here[2], arrives, flight, origin, leg.sequence), line
+    doubt = "?" * (here[3] or there[3])
+    line += (f" {apart:+}" if apart else "") + f" {doubt}" * bool(doubt)
+    fields = [here[0], day.isoformat(), clock(here[2]), "arr" if arrives else "dep", table.designator(flight), origin.isoformat(),
+              leg.sequence, leg.at(73, 75), there[0], clock(there[2]), str(apart), doubt]
+    return (here[2], arrives, flight, origin, leg.sequence), line, cells(fields)
 
 
 # ---- calendar
@@ -345,13 +367,18 @@ def escaped(text):
 
 # ---- diff
 
-def differing(old, new):
-    """The lines of `diff`."""
-    lines, flights, dates = [], 0, 0
+def changes(old, new):
+    """The flights of two timetables, each with the dates on which it differs and its two itineraries on them."""
     for flight in sorted(set(old.flights) | set(new.flights)):
         before, after = old.flights.get(flight, {}), new.flights.get(flight, {})
         values = {day: (before.get(day, ()), after.get(day, ())) for day in set(before) | set(after)}
-        values = {day: pair for day, pair in values.items() if pair[0] != pair[1]}
+        yield flight, before, after, {day: pair for day, pair in values.items() if pair[0] != pair[1]}
+
+
+def differing(old, new):
+    """The lines of `diff`."""
+    lines, flights, dates = [], 0, 0
+    for flight, before, after, values in changes(old, new):
         flights, dates = flights + bool(values), dates + len(values)
         for period, day in divided(values):
             lines.append(period_line(old.designator(flight), period))
@@ -371,3 +398,24 @@ def change_lines(old, new):
         lines += [f"- {first.line}{mark}"] if first else []
         lines += [f"+ {second.line}{mark}"] if second else []
     return lines + ([] if new else ["+ no flight"])
+
+
+def differing_rows(old, new, kind_of):
+    """The rows of `diff --csv`; `kind_of` gives the kind of a change."""
+    lines = [DIFF_NAMES]
+    for flight, _, _, values in changes(old, new):
+        for period, day in divided(values):
+            head = period_fields(old.designator(flight), period) + [kind_of(*values[day])]
+            lines += [cells([*head, side, *leg_fields(leg)]) for side, leg in sides(*values[day])]
+    return lines
+
+
+def sides(old, new):
+    """The legs of two itineraries by sequence, each with the side that has it."""
+    before, after = ({leg.sequence: leg for leg in legs} for legs in (old, new))
+    for sequence in sorted(set(before) | set(after)):
+        first, second = before.get(sequence), after.get(sequence)
+        if first == second:
+            yield "both", first
+            continue
+        yield from ((side, leg) for side, leg in (("old", first), ("new", second)) if leg)

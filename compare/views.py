@@ -1,5 +1,5 @@
 """`list`, `calendar` and `diff` with a choice of flight dates, beside a plain list of flight dates and beside `select`; several flights of a
-command; and boards of several dates.
+command; boards of several dates; and what commands print as CSV.
 
 Each case has a data set or a desk, as in `parts`, and choices of its flights, dates, stations and aircraft types. Of the dates that `tidy` or
 `export` writes (flight_dates.py) each is taken or left by itself. `list`, in each of its forms, and `calendar` have to print what follows from
@@ -16,7 +16,8 @@ add up, and turned round are the same but for `added` and `cancelled`. With `--s
 of `change words` some words are invalid.
 
 A case of `spans` has a desk with some messages, whose dates the model of `carry` finds in the desk file. With a span `findings` has to count what
-`history` says of each of these dates, and `texts` has to print the messages that follow from them. `findings` to a date and from the next one
+`history` says of each of these dates, and `texts` has to print the messages, or as CSV the sub-messages, that follow from them. `history --csv` has
+a row for each leg that `history` prints. `findings` to a date and from the next one
 on have together the numbers of all. In a case of `span words` some words of the two commands are invalid.
 
 In a case of `info` the file is a data set or a desk with some messages. What `info` prints has to follow from its carrier record, its lines
@@ -24,6 +25,7 @@ and its flight dates; and where it is refused, `list` is refused for the same.
 """
 import collections
 import copy
+import csv
 import datetime
 import re
 
@@ -33,7 +35,8 @@ import messages
 import parts
 import small
 from chapter7 import DAY, FILL, OPEN_END, date, dates_of
-from flight_dates import Timetable, board, calendar, differing, listed, listed_dates, rows
+from flight_dates import (BOARD_NAMES, LEG_NAMES, Timetable, board, calendar, cells, clock, differing, differing_rows, leg_fields, listed,
+                          listed_dates, movements, rows)
 from room import Answer, said
 
 KINDS = ["choice", "choice", "choice", "several", "boards", "words", "spans", "spans", "span words", "info", "stations", "changes", "changes", "changes",
@@ -45,6 +48,8 @@ FORMS = {(): listed, ("--dates",): listed_dates, ("--csv",): rows,
          ("--csv", "--dates"): lambda table, flights=None: rows(table, flights, True)}
 COMMANDS = [("list",), ("list", "--csv"), ("list", "--dates"), ("calendar",)]
 FINDING_NAMES = "reference,sub,action,flight,acted,absent,present,no_leg,no_station"
+TEXT_NAMES = "reference,sub,action,flight,first,last,days"
+HISTORY_NAMES = "flight,date,reference,sub,action,result," + LEG_NAMES
 
 
 def make(rng, room, kind):
@@ -260,8 +265,13 @@ class Sub:
 
     def __init__(self, airline, line, flight, first, last, days):
         self.name, _, numbers = line.partition(" acted ")
-        self.flight, self.dates = airline + flight, dates_of(first, last, days)
+        self.flight, self.dates, self.period = airline + flight, dates_of(first, last, days), (first, last, days)
         self.whole = [int(word) for word in numbers.split()[::2]]
+
+    def row(self):
+        """The row of `texts --csv`."""
+        (*reference, number, action, flight), (first, last, days) = self.name.split(" "), self.period
+        return cells([" ".join(reference), number, action, flight, first.isoformat(), last.isoformat(), days])
 
     def line(self, counts):
         return self.name + "".join(f" {word} {count}" for word, count in zip(REASONS, counts))
@@ -307,6 +317,8 @@ def of_span(rng, room, texts, names, span):
     wanted = [text for text, subs in texts if not ends and not names or any(sub in chosen and (not ends or chosen[sub]) for sub in subs)]
     room.counts["texts of a span" if 0 < len(wanted) < len(texts) else "all or no texts of a span"] += 1
     yield f"texts {words}", room("texts", *words), Answer(0, b"\n".join(wanted), "")
+    lines = [TEXT_NAMES, *(sub.row() for sub, dates in chosen.items() if dates or not ends)]
+    yield f"texts --csv {words}", room("texts", *words, "--csv"), said(lines)
     days = sorted({day for dates in chosen.values() for day in dates})
     if len(days) > MANY:
         return
@@ -319,8 +331,58 @@ def of_span(rng, room, texts, names, span):
             lines.append((counts, sub.line(counts)))
     room.counts["findings of a span" if 0 < len(lines) < len(chosen) else "all or no findings of a span"] += 1
     yield f"findings {words}", room("findings", *words), said([line for _, line in lines])
+    for day in days[:1] + days[len(days) // 2 :][:1]:
+        yield from of_history(room, chosen, day)
     left = [line for counts, line in lines if counts[0] == 0 or any(counts[1:])]
     yield f"findings --not-acted {words}", room("findings", "--not-acted", *words), said(left)
+
+
+def steps_of(lines):
+    """What `history` says: of each step its flight, its fields, and its legs as they are shown."""
+    for line in lines:
+        if re.fullmatch(r"\S+ \d\d[A-Z]{3}\d\d", line):
+            flight = line.split(" ")[0]
+        elif line.startswith("  "):
+            legs += [] if line == "  no flight" else [line.removesuffix(" *").split()]
+        elif line:
+            words, legs = line.split(" "), []
+            head = ["data set", "", "", ""] if line == "data set" else [" ".join(words[:-3]), *words[-3:]]
+            yield flight, head, legs
+
+
+def bare(field):
+    """A field, of which a blank may be shown as a point."""
+    return field.replace(".", " ").strip(" ")
+
+
+def shown_fields(leg):
+    """The first fields of the row of a leg, by its line; or of no leg."""
+    if leg is None:
+        return [""] * 13
+    sequence, start, *times, later, service, aircraft = leg
+    times = [clock(bare(word)) if len(word) == 4 else word for word in times]
+    return [bare(field) for field in [sequence, start, *times, later[0], later[1], service, aircraft]]
+
+
+def of_history(room, subs, day):
+    """What is compared of the rows of a date: each leg with what its line shows; and where it is in the data set or, at last, in the desk,
+    all of it."""
+    words = ["FILE", *sorted({sub.flight for sub in subs if day in sub.dates}), date(day)]
+    answer = room("history", "--csv", *words)
+    found, lines = (shown.out.decode("latin-1").split("\n")[:-1] for shown in (answer, room("history", *words)))
+    found, steps = list(csv.reader(found)), list(steps_of(lines))
+    wanted = [[flight, day.isoformat(), *head, *leg] for flight, head, legs in steps for leg in map(shown_fields, legs or [None])]
+    yield f"names of history --csv {words}", ",".join(found[0]), HISTORY_NAMES
+    yield f"history --csv {words}", [row[:6] + [bare(field) for field in row[6:19]] for row in found[1:]], wanted
+    room.counts["rows of history"] += len(wanted)
+    for name, result, data in ("data set", "", room("tidy", "data").out), ("desk", "acted", room.exported("FILE")):
+        table = Timetable(data) if data else None
+        for flight in {flight for flight, _, _ in steps} if table else ():
+            last = [row[2:4] for row in found if row[0] == flight and row[5] in ("", result)][-1:] if result else [["data set", ""]]
+            legs = [row[6:] for row in found if row[0] == flight and row[2:4] in last]
+            there = next((days for key, days in table.flights.items() if table.designator(key) == flight), {}).get(day, ())
+            fields = [[field.strip(" ") for field in leg_fields(leg)] for leg in there] or [[""] * 17]
+            yield f"legs of history --csv {words} in the {name}", legs, fields
 
 
 def of_halves(room, subs, names, day):
@@ -362,7 +424,7 @@ def of_span_words(rng, room):
         wrong.discard("turned")
     fault = next(parts.REFUSALS[kind] for kind in kinds if kind in wrong)
     room.counts[f"span words: {fault}"] += 1
-    for command in ["texts"], ["findings"], ["findings", "--not-acted"]:
+    for command in ["texts"], ["texts", "--csv"], ["findings"], ["findings", "--not-acted"]:
         words = [*command, "--from", first, "--to", last, "FILE", *flights]
         yield " ".join(words), room(*words), Answer(1, b"", f"refused {fault}\n")
 
@@ -426,6 +488,9 @@ def of_board(rng, room, table):
         answers[option], wanted = room("board", *words), boards(table, station, day, count, kinds)
         room.counts["a board without lines" if set(wanted[-1:]) == {"no flight"} else "a board with lines"] += 1
         yield f"board {words}", answers[option], said(wanted)
+        rows_of_kinds = [row for on in dates_from(day, count or 1) for line, row in movements(table, station, on) if line.split()[1] in kinds]
+        wanted = said([BOARD_NAMES, *rows_of_kinds])
+        yield f"board --csv {words}", room("board", *rng.choice([["--csv", *words], [*words, "--csv"]])), wanted
     for option in DIRECTIONS if count and count <= 7 else ():
         alone = [[f"{station} {date(on)}", *printed(room("board", *option, "FILE", station, date(on)))] for on in dates_from(day, count)]
         yield f"{count} dates of {station} {day} {option}", answers[option], said(blocks(alone))
@@ -444,7 +509,7 @@ def of_board_words(rng, room, table):
     both = rng.sample(["--departures", "--arrivals"], k=2)
     for name in "FILE", "MISSING":
         yield f"board {both} {name}", room("board", *both, name, station, date(day)), NO_COMMAND
-    for option in ["--departures"], ["--arrivals"], ["--days", "7"]:
+    for option in ["--departures"], ["--arrivals"], ["--days", "7"], ["--csv"]:
         yield f"board {option} twice", room("board", *option, *option, "FILE", station, date(day)).status, 2
         words = [rng.choice([station, "ZR", "ZRHX"]), rng.choice([date(day), "32JAN27", "29FEB27"])]
         fault = "3 BadStation" if words[0] != station else "1 BadDate" if words[1] != date(day) else None

@@ -78,14 +78,15 @@ from_a_date = record { right = refl; name = codes "findings"; rows = _; entered 
 -- `board --days 2 --arrivals fdh.desk dxb 15jun27`: the arrivals of two dates
 two_dates : Names (codes "ssimdesk" ∷ codes "board" ∷ codes "--days" ∷ codes "2" ∷ codes "--arrivals"
     ∷ codes "fdh.desk" ∷ codes "dxb" ∷ codes "15jun27" ∷ [])
-    (Board (record { days = Some 2; only = Some Arrivals }) (codes "fdh.desk") (codes "dxb")
+    (Board (record { csv = false; days = Some 2; only = Some Arrivals }) (codes "fdh.desk") (codes "dxb")
     (codes "15jun27"))
 unfolding clap_on_literals
 two_dates = record { right = refl; name = codes "board"; rows = _; entered = refl; read = refl }
 
 -- `board fdh.desk dxb 15jun27`: one date
 one_date : Names (codes "ssimdesk" ∷ codes "board" ∷ codes "fdh.desk" ∷ codes "dxb" ∷ codes "15jun27" ∷ [])
-    (Board (record { days = None; only = None }) (codes "fdh.desk") (codes "dxb") (codes "15jun27"))
+    (Board (record { csv = false; days = None; only = None }) (codes "fdh.desk") (codes "dxb")
+    (codes "15jun27"))
 unfolding clap_on_literals
 one_date = record { right = refl; name = codes "board"; rows = _; entered = refl; read = refl }
 

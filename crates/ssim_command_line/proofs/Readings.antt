@@ -265,13 +265,17 @@ merge_row = by (codes "merge") (three_values ++ optional (codes "since") ∷ [])
     (λ rows. three (Merge (first_of (codes "since") rows)))
 
 abbrev pub texts_row : Command
-texts_row = by (codes "texts") (one_value ++ any_texts ∷ span_words)
-    (λ rows. one_and_texts (Texts (span_of rows)))
+texts_row = by (codes "texts") (one_value ++ any_texts ∷ flag (codes "csv") ∷ span_words)
+    (λ rows. one_and_texts (Texts (is_given (codes "csv") rows) (span_of rows)))
 
 abbrev pub list_row : Command
 list_row = by (codes "list")
     (one_value ++ any_texts ∷ flag (codes "csv") ∷ flag (codes "dates") ∷ choice_words)
     (λ rows. one_and_texts (Listing (form_of rows) (choice_of rows)))
+
+abbrev pub history_row : Command
+history_row = by (codes "history") (two_values ++ several_texts ∷ flag (codes "csv") ∷ [])
+    (λ rows. two_and_texts (History (is_given (codes "csv") rows)))
 
 abbrev pub board_row : Command
 board_row = by (codes "board") (three_values ++ board_words)
@@ -335,8 +339,15 @@ merge_read = three_reader merge_row.name merge_row.words (λ rows. Merge (first_
 
 pub texts_read_by : IsReader texts_row
 unfolding clap_on_literals
-texts_read_by = texts_reader texts_row.name texts_row.words (λ rows. Texts (span_of rows))
+texts_read_by = texts_reader texts_row.name texts_row.words
+    (λ rows. Texts (is_given (codes "csv") rows) (span_of rows))
     (λ a. (refl, record { enter = λ t rest. refl; first = λ t u. refl; later = λ x seen t u. refl }))
+
+pub history_read : IsReader history_row
+unfolding clap_on_literals
+history_read = several_reader history_row.name history_row.words
+    (λ rows. History (is_given (codes "csv") rows))
+    (λ a b. record { enter = λ t rest. refl; first = λ t u. refl; later = λ x seen t u. refl })
 
 pub list_read : IsReader list_row
 unfolding clap_on_literals
@@ -397,7 +408,7 @@ readers =
     ∷ record { row = texts_row; reads = texts_read_by }
     ∷ with_several (codes "withdraw") Withdraw
     ∷ with_several (codes "show") Show
-    ∷ with_several (codes "history") History
+    ∷ record { row = history_row; reads = history_read }
     ∷ record { row = list_row; reads = list_read }
     ∷ record { row = board_row; reads = board_read }
     ∷ record { row = calendar_row; reads = calendar_read }

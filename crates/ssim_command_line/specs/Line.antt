@@ -48,10 +48,10 @@ pub data Line : Type 0 where
   Receive : (refused : Option Text) (status : Bool) (desk out : Text) (texts : List Text) → Line
   Merge : (since : Option Text) (desk other out : Text) → Line
   Carry : (desk other out : Text) → Line
-  Texts : (span : SpanTexts) (desk : Text) (flights : List Text) → Line
+  Texts : (csv : Bool) (span : SpanTexts) (desk : Text) (flights : List Text) → Line
   Withdraw : (desk out : Text) (references : List Text) → Line
   Show : (file flight : Text) (words : List Text) → Line
-  History : (file flight : Text) (words : List Text) → Line
+  History : (csv : Bool) (file flight : Text) (words : List Text) → Line
   Board : (form : BoardForm) (file station date : Text) → Line
   Listing : (form : ListForm) (choice : ChoiceTexts) (file : Text) (flights : List Text) → Line
   Calendar : (choice : ChoiceTexts) (file : Text) (flights : List Text) → Line
@@ -96,14 +96,14 @@ line_of (request.Receive refused status desk out texts) =
 line_of (request.Merge since desk other out) =
     Merge (option_map (λ s. s.now) since) desk.now other.now out.now
 line_of (request.Carry desk other out) = Carry desk.now other.now out.now
-line_of (request.Texts span desk flights) =
-    Texts (span_line span) desk.now (map (λ t. t.now) flights.items)
+line_of (request.Texts csv span desk flights) =
+    Texts csv (span_line span) desk.now (map (λ t. t.now) flights.items)
 line_of (request.Withdraw desk out references) =
     Withdraw desk.now out.now (map (λ r. r.now) references.items)
 line_of (request.Show file flight words) =
     Show file.now flight.now (map (λ t. t.now) words.items)
-line_of (request.History file flight words) =
-    History file.now flight.now (map (λ t. t.now) words.items)
+line_of (request.History csv file flight words) =
+    History csv file.now flight.now (map (λ t. t.now) words.items)
 line_of (request.Board form file station date) = Board form file.now station.now date.now
 line_of (request.List form choice file flights) =
     Listing form (choice_line choice) file.now (map (λ t. t.now) flights.items)
@@ -230,17 +230,17 @@ only_of true false = Some (Some Departures)
 only_of false true = Some (Some Arrivals)
 only_of true true = None
 
--- a number of dates, if --days is given, and the lines that are left
-abbrev pub form_with : Option Text → Option (Option Direction) → Option BoardForm
-form_with days None = None
-form_with None (Some only) = Some (record { days = None; only = only })
-form_with (Some word) (Some only) =
-    option_map (λ days. record { days = Some days; only = only }) (days_in word)
+-- whether rows are printed, a number of dates, if --days is given, and the lines that are left
+abbrev pub form_with : Bool → Option Text → Option (Option Direction) → Option BoardForm
+form_with csv days None = None
+form_with csv None (Some only) = Some (record { csv = csv; days = None; only = only })
+form_with csv (Some word) (Some only) =
+    option_map (λ days. record { csv = csv; days = Some days; only = only }) (days_in word)
 
 -- how `board` prints, if its options say it
 abbrev pub board_form_of : List Row → Option BoardForm
 board_form_of rows =
-    form_with (first_of (codes "days") rows)
+    form_with (is_given (codes "csv") rows) (first_of (codes "days") rows)
     (only_of (is_given (codes "departures") rows) (is_given (codes "arrivals") rows))
 
 -- which flight dates the options choose
@@ -269,7 +269,7 @@ choice_words =
 -- the options of `board`
 abbrev pub board_words : List Rule
 board_words =
-    optional (codes "days") ∷ flag (codes "departures") ∷ flag (codes "arrivals") ∷ []
+    flag (codes "csv") ∷ optional (codes "days") ∷ flag (codes "departures") ∷ flag (codes "arrivals") ∷ []
 
 -- ---- the line that values make: of as many as it names, or of those and the texts after them. One
 -- of two may be missing, which is the first of them. A time mode is one of two words. The options of
@@ -359,12 +359,16 @@ commands =
     ∷ command (codes "carry") three_values (three Carry)
     ∷ record {
       name = codes "texts";
-      words = one_value ++ any_texts ∷ span_words;
-      make = λ rows. one_and_texts (Texts (span_of rows));
+      words = one_value ++ any_texts ∷ flag (codes "csv") ∷ span_words;
+      make = λ rows. one_and_texts (Texts (is_given (codes "csv") rows) (span_of rows));
     }
     ∷ command (codes "withdraw") (two_values ++ several_texts ∷ []) (two_and_texts Withdraw)
     ∷ command (codes "show") (two_values ++ several_texts ∷ []) (two_and_texts Show)
-    ∷ command (codes "history") (two_values ++ several_texts ∷ []) (two_and_texts History)
+    ∷ record {
+      name = codes "history";
+      words = two_values ++ several_texts ∷ flag (codes "csv") ∷ [];
+      make = λ rows. two_and_texts (History (is_given (codes "csv") rows));
+    }
     ∷ record {
       name = codes "list";
       words = one_value ++ any_texts ∷ flag (codes "csv") ∷ flag (codes "dates") ∷ choice_words;

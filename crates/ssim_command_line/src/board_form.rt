@@ -21,6 +21,8 @@ pub enum Direction {
 /// How `board` prints.
 #[derive(Clone, Copy, Debug, PartialEq, Eq)]
 pub struct BoardForm {
+    /// As CSV.
+    pub csv: bool,
     /// For how many dates, each under a heading; if it is missing, for one date without a heading.
     pub days: Option<u16>,
     /// The lines of one direction alone.
@@ -86,16 +88,21 @@ fn only_of(departures: bool, arrivals: bool) -> Option<Option<Direction>>
     }
 }
 
-/// A number of dates, if `--days` is given, and the lines that are left.
-fn form_with(days: Option<&str>, only: Option<Option<Direction>>) -> Option<BoardForm>
-    ensures { result ≡ form_with (option_map (λ s. s.now) days.entry) only }
+/// Whether rows are printed, a number of dates, if `--days` is given, and the lines that are left.
+fn form_with(csv: bool, days: Option<&str>, only: Option<Option<Direction>>) -> Option<BoardForm>
+    ensures { result ≡ form_with csv (option_map (λ s. s.now) days.entry) only }
 {
     let only = only?;
     match days {
-        None => Some(BoardForm { days: None, only }),
+        None => Some(BoardForm {
+            csv,
+            days: None,
+            only,
+        }),
         Some(word) => {
             let days = days_in(word)?;
             Some(BoardForm {
+                csv,
                 days: Some(days),
                 only,
             })
@@ -108,5 +115,5 @@ pub(crate) fn board_form_of(inner: &ArgMatches<'_>) -> Option<BoardForm>
     ensures { result ≡ board_form_of (rows_of (found_of inner.now)) }
 {
     let only = only_of(is_given(inner, "departures"), is_given(inner, "arrivals"));
-    form_with(option_at(inner, "days"), only)
+    form_with(is_given(inner, "csv"), option_at(inner, "days"), only)
 }

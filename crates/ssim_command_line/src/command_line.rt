@@ -138,8 +138,9 @@ pub enum Request<'a> {
         out: &'a str,
     },
     /// Print the texts of the messages of a desk: of all, or of those that name one of the flights on
-    /// one of the dates.
+    /// one of the dates. As CSV print their sub-messages.
     Texts {
+        csv: bool,
         span: SpanWords<'a>,
         desk: &'a str,
         flights: Vec<&'a str>,
@@ -160,6 +161,7 @@ pub enum Request<'a> {
     /// Print what the messages of a desk did with flights on a date; a data set has none. The words
     /// are those of `Show`.
     History {
+        csv: bool,
         file: &'a str,
         flight: &'a str,
         words: Vec<&'a str>,
@@ -486,6 +488,13 @@ fn problems_form_of(inner: &ArgMatches<'_>) -> ProblemsForm
         csv: is_given(inner, "csv"),
         status: is_given(inner, "status"),
     }
+}
+
+/// Whether rows of CSV are printed.
+fn csv_of(inner: &ArgMatches<'_>) -> bool
+    ensures { result ≡ is_given (codes "csv") (rows_of (found_of inner.now)) }
+{
+    is_given(inner, "csv")
 }
 
 /// The span of dates that the options give.

@@ -183,8 +183,9 @@ Exit status: 0, also if messages are left; 1 if a desk file is refused, airline
 or time mode differ (61), DESK holds another message under the reference of one
 that means the same (60), a file cannot be read or written, another command
 holds OUT (92), or OUT is a file of another kind (93)."
-        "texts" [First("DESK"), Any("FLIGHT"), Valued("from", "DATE"), Valued("to", "DATE")]
-            => Texts(desk; flights; span: span_of)
+        "texts" [First("DESK"), Any("FLIGHT"), Flag("csv"), Valued("from", "DATE"),
+            Valued("to", "DATE")]
+            => Texts(desk; flights; csv: csv_of; span: span_of)
         "Print messages of a desk as texts: all, or of some flights or dates"
         "\
 The texts are canonical, in order of reference. 'carry' brings messages to a
@@ -199,7 +200,8 @@ prints each text, with an empty line between two:
   Z7103
   24MAY27 24MAY27 1
 With --from or --to it prints those of which a sub-message has one of these
-dates; with flights, a sub-message of one of the flights.
+dates; with flights, a sub-message of one of the flights. With --csv it prints a
+row for each such sub-message: reference, number, action, flight and period.
 Exit status: 0, also if no message is printed; 1 if the desk file is refused, a
 word is no flight (6) or date (1), the airline is another one (41), or --from is
 after --to (43)."
@@ -233,8 +235,8 @@ The date is the last word. Between two flights is an empty line.
 Exit status: 0, also if there is no flight; 1 if FILE is neither a desk file nor
 a data set (62), FLIGHT is no designator (6), DATE is no date (1), or another
 airline is named (41)."
-        "history" [First("FILE"), Second("FLIGHT"), Several("FLIGHT/DATE")]
-            => History(file, flight; words+)
+        "history" [First("FILE"), Second("FLIGHT"), Several("FLIGHT/DATE"), Flag("csv")]
+            => History(file, flight; words+; csv: csv_of)
         "Print what each message of a desk did to flights on a date"
         "\
 Example:
@@ -250,7 +252,8 @@ before. A data set has no messages:
     01 FDH 1730 1730 +0200 HAM 1920 1920 +0200 00 J AT7
   SSM 15MAR27 00001 001 1 CNL acted
     no flight
-The date is the last word. Between two flights is an empty line.
+The date is the last word. Between two flights is an empty line. With --csv it
+prints rows, one for each leg, or without a leg.
 Exit status: 0; 1 if FILE is neither a desk file nor a data set (62), FLIGHT is
 no designator (6), DATE is no date (1), or the airline is another one (41)."
         "list" [First("FILE"), Any("FLIGHT"), Flag("csv"), Flag("dates"), Valued("from", "DATE"),
@@ -275,7 +278,7 @@ With --from, --to, --station or --aircraft it is the list of 'select'.
 Exit status: 0; 1 if the file is refused, a word is no flight (6), station (3),
 aircraft type (25) or date (1), the airline is another one (41), or --from is
 after --to (43)."
-        "board" [First("FILE"), Second("STATION"), Third("DATE"), Valued("days", "N"),
+        "board" [First("FILE"), Second("STATION"), Third("DATE"), Flag("csv"), Valued("days", "N"),
             Flag("departures"), Flag("arrivals")]
             => Board(file, station, date; form?: board_form_of)
         "Print the departures and arrivals at a station on a local date"
@@ -295,6 +298,7 @@ digit nor blank, or in UTC mode a UTC variation is blank: both count as 0.
   ssimdesk board --days 7 --departures fdh.desk FDH 15JUN27
 prints the departures of a week, each date under a heading of station and date.
 Between two dates is an empty line. N is 1 to 366; no date is after 31DEC99.
+With --csv it prints a row for each line, with the station and the date.
 Exit status: 0, also with 'no flight'; 1 if the file is refused, STATION is no
 station (3), or DATE is no date (1)."
         ;

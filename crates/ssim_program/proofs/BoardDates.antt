@@ -1,8 +1,10 @@
 -- The boards of several dates, one after another, of flights that are right near all of them.
 use Rattle.std.proofs.Common.{◌≡◌, ◌∙◌, ℕ, zero, suc, ◌+◌, ◌-◌, ◌≤◌, ◌<◌, nat_lt, Bool, true, false}
-use Rattle.std.proofs.Common.{if◌then◌else◌, List, [], ◌∷◌, ◌++◌, map, refl, sym, ap, arith}
-use Rattle.std.specs.List.{range_with_len}
+use Rattle.std.proofs.Common.{if◌then◌else◌, List, [], ◌∷◌, ◌++◌, append-nil, append_assoc, map, refl, sym}
+use Rattle.std.proofs.Common.{ap, arith}
+use Rattle.std.specs.List.{flat_map, range_with_len}
 use Rattle.std.proofs.lemmas.Bool.Decides.{nat_tests}
+use Rattle.std.proofs.lemmas.Grind.{flat_map-append}
 use Rattle.ssim_values.specs.Flight.{FlightNumber}
 use Rattle.ssim_base.specs.Timetable.{Days}
 use Rattle.ssim_schedule.specs.clauses.Dates.{AgreeBetween}
@@ -35,6 +37,34 @@ shown_next f a j now next from so_far is =
     is ∙ ap (λ xs. xs ++ f j ∷ []) so_far
     ∙ ap (λ (k : ℕ). map f (range_with_len a (j - a)) ++ f k ∷ []) here
     ∙ sym (range_added f a (j - a) (j + 1 - a) more)
+
+-- the numbers of a range with one more
+range_more : (a n m : ℕ) → m ≡ n + 1 → range_with_len a m ≡ range_with_len a n ++ (a + n) ∷ []
+range_more a zero m e =
+    let one : m ≡ suc zero = omega (arith, e) in
+    let here : a ≡ a + zero = omega arith in
+    ap (range_with_len a) one ∙ ap (λ (k : ℕ). k ∷ []) here
+range_more a (suc n) m e =
+    let more : m ≡ suc (suc n) = omega (arith, e) in
+    let next : suc n ≡ n + 1 = omega arith in
+    let here : a + 1 + n ≡ a + suc n = omega arith in
+    ap (range_with_len a) more
+    ∙ ap (λ (xs : List ℕ). a ∷ xs) (range_more (a + 1) n (suc n) next)
+    ∙ ap (λ (k : ℕ). a ∷ (range_with_len (a + 1) n ++ k ∷ [])) here
+
+-- the rows of one date more
+pub rows_next : (f : ℕ → List ℕ) (head : List ℕ) (a j : ℕ) (now next : List ℕ) → a ≤ j
+    → now ≡ head ++ flat_map f (range_with_len a (j - a)) → next ≡ now ++ f j
+    → next ≡ head ++ flat_map f (range_with_len a (j + 1 - a))
+rows_next f head a j now next from so_far is =
+    let more : j + 1 - a ≡ (j - a) + 1 = omega arith in
+    let here : j ≡ a + (j - a) = omega arith in
+    let before = range_with_len a (j - a) in
+    is ∙ ap (λ (xs : List ℕ). xs ++ f j) so_far ∙ append_assoc head (flat_map f before) (f j)
+    ∙ ap (λ (xs : List ℕ). head ++ (flat_map f before ++ xs)) (sym (append-nil (f j)))
+    ∙ ap (λ (xs : List ℕ). head ++ xs) (sym (flat_map-append f before (j ∷ [])))
+    ∙ ap (λ (k : ℕ). head ++ flat_map f (before ++ k ∷ [])) here
+    ∙ ap (λ (ns : List ℕ). head ++ flat_map f ns) (sym (range_more a (j - a) (j + 1 - a) more))
 
 later_last : (day last : ℕ) (b d : Bool) → nat_lt day 36524 ≡ b → nat_lt last 36524 ≡ d → day ≤ last
     → last < 36525

@@ -65,7 +65,8 @@ use Rattle.ssim_program.specs.print.Info.{info_lines}
 use Rattle.ssim_program.specs.print.PrintedLine.{printed_text}
 use Rattle.ssim_program.specs.print.Refusal.{IsMemory, refusal_number}
 use Rattle.ssim_program.specs.print.Blocks.{blocks}
-use Rattle.ssim_program.specs.print.Shown.{findings_lines, history_on, shown_on}
+use Rattle.ssim_program.specs.print.HistoryRows.{printed_history}
+use Rattle.ssim_program.specs.print.Shown.{findings_lines, shown_on}
 use Rattle.ssim_program.specs.declared.explain.file_kind.FileKind.{FileKind}
 use Rattle.ssim_program.specs.declared.explain.file_kind.FileKind.TheVariants as kind
 use Rattle.ssim_program.specs.declared.print.printed_line.PrintedLine.TheVariants as printed_line
@@ -267,10 +268,10 @@ shown_lines desk named =
     blocks (map (shown_on (airline_of desk.base.records) (left_by desk.base desk.held) named.1)
     (in_order named.0))
 
-abbrev lines_of_history : DeskSeen → List FlightNumber × ℕ → List ℕ
-lines_of_history desk named =
-    blocks (map (history_on (airline_of desk.base.records) (itinerary desk.base.records)
-    (steps_on desk) named.1) (in_order named.0))
+abbrev lines_of_history : Bool → DeskSeen → List FlightNumber × ℕ → List ℕ
+lines_of_history csv desk named =
+    printed_history csv (airline_of desk.base.records) (itinerary desk.base.records)
+    (steps_on desk) named.1 (in_order named.0)
 
 abbrev export_of : DeskSeen → Answer (List Act)
 export_of desk = prints (export_in desk.base.records (days_of_desk desk))
@@ -428,10 +429,10 @@ module _ (frames : FramesAreOne) (one_base : SameBytesSameBase) (no_two : NoTwoD
   show_alike = of_shown shown_lines (λ desk other named that one both.
       λ i. shown_lines (seen (one.0 i) (one.1 i)) (both i))
 
-  pub history_alike : (flight : Text) (words : List Text)
-      → DoesTheSame (λ file. History file flight words)
-  history_alike = of_shown lines_of_history (λ desk other named that one both.
-      λ i. lines_of_history (seen (one.0 i) (one.1 i)) (both i))
+  pub history_alike : (csv : Bool) (flight : Text) (words : List Text)
+      → DoesTheSame (λ file. History csv file flight words)
+  history_alike csv = of_shown (lines_of_history csv) (λ desk other named that one both.
+      λ i. lines_of_history csv (seen (one.0 i) (one.1 i)) (both i))
 
   pub board_alike : (form : BoardForm) (station date : Text)
       → DoesTheSame (λ file. Board form file station date)

@@ -9,7 +9,7 @@ use Rattle.ssim_program.specs.Answer.{Answer, ◌>>=◌}
 use Rattle.ssim_program.specs.Desks.{desk_in}
 use Rattle.ssim_program.specs.EqualFiles.{AreAlike, DoesTheSame, PrintTheSame}
 use Rattle.ssim_program.specs.Acts.{prints}
-use Rattle.ssim_program.specs.Messages.{message_texts, messages_on}
+use Rattle.ssim_program.specs.Messages.{printed_messages}
 use Rattle.ssim_program.specs.Spans.{dates_alone, has_end, lines_found}
 use Rattle.ssim_program.specs.print.Shown.{findings_lines}
 use Rattle.ssim_program.proofs.Alike.{Equal, prints_alike, then_alike}
@@ -17,20 +17,20 @@ use Rattle.ssim_program.proofs.EqualFiles.{seen}
 use Rattle.ssim_program.proofs.EqualParts.{lines_alike, lines_of}
 use Rattle.ssim_program.proofs.SameReading.{SameDesk, desk_alike}
 
-abbrev texts_of : Bool → DeskSeen → Choosing → List ℕ
-texts_of spanned desk choice = message_texts (messages_on spanned choice desk.held)
+abbrev texts_of : Bool → Bool → DeskSeen → Choosing → List ℕ
+texts_of csv spanned desk choice = printed_messages csv spanned choice desk.held
 
 abbrev findings_of : FindingsForm → Bool → DeskSeen → Choosing → List ℕ
 findings_of form spanned desk choice =
     findings_lines form spanned choice (lines_found spanned choice desk)
 
 module _ (no_two : NoTwoDesks) where
-  pub texts_alike : (span : SpanTexts) (words : List Text)
-      → DoesTheSame (λ file. Texts span file words)
-  texts_alike span words files others name another same =
+  pub texts_alike : (csv : Bool) (span : SpanTexts) (words : List Text)
+      → DoesTheSame (λ file. Texts csv span file words)
+  texts_alike csv span words files others name another same =
       let mine = desk_in (Some files) name in
       let theirs = desk_in (Some others) another in
-      let lines = texts_of (has_end span) in
+      let lines = texts_of csv (has_end span) in
       let printed = lines_of lines (dates_alone span) words in
       prints_alike (mine >>= printed) (theirs >>= printed)
       (then_alike SameDesk Equal mine theirs printed printed

@@ -229,11 +229,11 @@ module _ (old new : Files) (acts done later : List Act) (split : acts ≡ done +
       keeps_one _ old new acts done later split left _ (WithdrawKept desk out references)
       (ap kept_by are) refl
       (λ is. (acts, (tt, may, (one, read, (after, withdraws, (rising, are)))), ap is_whole are, is))
-  of_line (line.Texts span desk flights) (bytes, is, are) =
+  of_line (line.Texts csv span desk flights) (bytes, is, are) =
       looks _ old new acts done later split left (ap kept_by are)
   of_line (line.Show desk flight words) (bytes, is, are) =
       looks _ old new acts done later split left (ap kept_by are)
-  of_line (line.History desk flight words) (bytes, is, are) =
+  of_line (line.History csv desk flight words) (bytes, is, are) =
       looks _ old new acts done later split left (ap kept_by are)
   of_line (line.Board form file station date) (bytes, is, are) =
       looks _ old new acts done later split left (ap kept_by are)

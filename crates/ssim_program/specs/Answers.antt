@@ -48,7 +48,7 @@ use Rattle.ssim_program.specs.Explained.{Explains, RefusesExplain}
 use Rattle.ssim_program.specs.Files.{Files}
 use Rattle.ssim_program.specs.Made.{AreLinesOn, base_in, data_set_in, problem_lines, problems_in}
 use Rattle.ssim_program.specs.Made.{has_problem, problem_rows}
-use Rattle.ssim_program.specs.Messages.{flights_on, message_texts, messages_on}
+use Rattle.ssim_program.specs.Messages.{flights_on, printed_messages}
 use Rattle.ssim_program.specs.Places.{place_in}
 use Rattle.ssim_program.specs.Splitting.{split}
 use Rattle.ssim_program.specs.Spans.{dates_alone, has_end, lines_found}
@@ -64,7 +64,8 @@ use Rattle.ssim_program.specs.print.Info.{info_lines}
 use Rattle.ssim_program.specs.print.Difference.{reported_difference}
 use Rattle.ssim_program.specs.print.Listing.{printed_list}
 use Rattle.ssim_program.specs.print.Page.{message_articles}
-use Rattle.ssim_program.specs.print.Shown.{findings_lines, history_on, shown_on}
+use Rattle.ssim_program.specs.print.HistoryRows.{printed_history}
+use Rattle.ssim_program.specs.print.Shown.{findings_lines, shown_on}
 use Rattle.ssim_program.specs.declared.content_kind.ContentKind.TheVariants as kind
 use Rattle.ssim_program.specs.declared.refusal.Refusal.TheVariants as refused
 
@@ -175,12 +176,12 @@ withdraw files file out references = do
 -- ---- what a desk holds
 
 -- the texts of its messages; with flights or a span of dates, of those of which one sub-message is of
--- such a flight and has such a date
-abbrev pub texts : Option Files → SpanTexts → Text → List Text → Answer (List ℕ)
-texts files span file words = do
+-- such a flight and has such a date; or a row of CSV for each such sub-message
+abbrev pub texts : Option Files → Bool → SpanTexts → Text → List Text → Answer (List ℕ)
+texts files csv span file words = do
   desk ← desk_in files file
   choice ← choice_in (airline_of desk.base.records) (dates_alone span) words
-  Gives (message_texts (messages_on (has_end span) choice desk.held))
+  Gives (printed_messages csv (has_end span) choice desk.held)
 
 -- flights on a date, by number and then by suffix, each once, with an empty line between two
 abbrev pub show : Option Files → Text → Text → List Text → Answer (List ℕ)
@@ -190,13 +191,14 @@ show files file flight words = do
   Gives (blocks (map (shown_on (airline_of desk.base.records) (timetable_of desk) named.1)
       (in_order named.0)))
 
--- what the data set has for flights on a date, and what each sub-message did with it
-abbrev pub history : Option Files → Text → Text → List Text → Answer (List ℕ)
-history files file flight words = do
+-- what the data set has for flights on a date, and what each sub-message did with it; as lines or as
+-- CSV
+abbrev pub history : Option Files → Bool → Text → Text → List Text → Answer (List ℕ)
+history files csv file flight words = do
   desk ← shown_in files file
   named ← flights_on (airline_of desk.base.records) flight words
-  Gives (blocks (map (history_on (airline_of desk.base.records) (itinerary desk.base.records)
-      (steps_on desk) named.1) (in_order named.0)))
+  Gives (printed_history csv (airline_of desk.base.records) (itinerary desk.base.records)
+      (steps_on desk) named.1 (in_order named.0))
 
 -- what each sub-message found on its dates, or on those of a span: of all flights, or of those that
 -- are named; all, or those alone that did not act on a date; as lines or as CSV
@@ -384,9 +386,9 @@ answers (Receive refused status file out names) files =
 answers (Merge since file other out) files = merge_either files since file other out
 answers (Carry file other out) files = carry files file other out
 answers (Withdraw file out references) files = withdraw files file out references
-answers (Texts span file flights) files = prints (texts files span file flights)
+answers (Texts csv span file flights) files = prints (texts files csv span file flights)
 answers (Show file flight words) files = prints (show files file flight words)
-answers (History file flight words) files = prints (history files file flight words)
+answers (History csv file flight words) files = prints (history files csv file flight words)
 answers (Board form file station date) files = prints (board files form file station date)
 answers (Listing form words file flights) files = prints (list files form words file flights)
 answers (Calendar words file flights) files = prints (calendar files words file flights)

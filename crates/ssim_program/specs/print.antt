@@ -3,6 +3,7 @@ pub mod Names
 pub mod Refusal
 pub mod PrintedLine
 pub mod Shown
+pub mod HistoryRows
 pub mod Listing
 pub mod Difference
 pub mod Blocks

@@ -135,20 +135,22 @@ pub(crate) fn make<'r, S: Store>(
             problems::problems(alloc, form.csv, dataset, store),
         ),
         Request::Texts {
+            csv,
             span,
             desk,
             flights,
-        } => lines(texts::texts(alloc, *span, desk, flights, store)),
+        } => lines(texts::texts(alloc, *csv, *span, desk, flights, store)),
         Request::Show {
             file,
             flight,
             words,
         } => lines(show::show(alloc, file, flight, words, store)),
         Request::History {
+            csv,
             file,
             flight,
             words,
-        } => lines(history::history(alloc, file, flight, words, store)),
+        } => lines(history::history(alloc, *csv, file, flight, words, store)),
         Request::Board {
             form,
             file,

@@ -1,6 +1,6 @@
 //! What holds of the bytes that the commands write, and of desk files after any commands.
 
-ghost use Rattle.std.specs.Prelude.{List, None, Some};
+ghost use Rattle.std.specs.Prelude.{Bool, List, None, Some};
 ghost use Rattle.ssim_command_line.specs.Line.{Board, Calendar, Carry, Check, ChoiceTexts, Diff};
 ghost use Rattle.ssim_command_line.specs.Line.{Convert, Export, Findings, Select, SpanTexts};
 ghost use Rattle.ssim_command_line.specs.Line.{History, Info, Listing, Page, Problems, Show, Text, Texts};
@@ -85,8 +85,8 @@ pub fn nothing_taken_is_lost()
 /// prints the same: what became of each reference. So does `carry` of two pairs of equal desk files:
 /// what became of each message.
 pub fn equal_desk_files_do_the_same()
-    ensures texts { (span : SpanTexts) (flights : List Text)
-        → DoesTheSame (λ file. Texts span file flights) }
+    ensures texts { (csv : Bool) (span : SpanTexts) (flights : List Text)
+        → DoesTheSame (λ file. Texts csv span file flights) }
     ensures withdraw { (out : Text) (references : List Text)
         → PrintsTheSame (λ file. Withdraw file out references) }
     ensures carry { (out : Text) → PrintsTheSameOfPairs (λ desk other. Carry desk other out) }
@@ -105,8 +105,8 @@ pub fn equal_desk_files_do_the_same()
 pub fn equal_timetables_do_the_same()
     ensures show { (flight : Text) (words : List Text)
         → DoesTheSame (λ file. Show file flight words) }
-    ensures history { (flight : Text) (words : List Text)
-        → DoesTheSame (λ file. History file flight words) }
+    ensures history { (csv : Bool) (flight : Text) (words : List Text)
+        → DoesTheSame (λ file. History csv file flight words) }
     ensures board { (form : BoardForm) (station date : Text)
         → DoesTheSame (λ file. Board form file station date) }
     ensures list { (form : ListForm) (words : ChoiceTexts) (flights : List Text)

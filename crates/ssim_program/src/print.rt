@@ -3,6 +3,7 @@
 pub(crate) mod blocks;
 pub(crate) mod fault_line;
 pub(crate) mod finding;
+pub(crate) mod history_rows;
 pub(crate) mod legs;
 pub(crate) mod message_articles;
 pub(crate) mod name;
@@ -13,6 +14,7 @@ pub(crate) mod problem;
 pub(crate) mod refusal_line;
 pub(crate) mod section;
 pub(crate) mod step;
+pub(crate) mod sub_rows;
 
 /// Values are printed each in a line of its own.
 #[derive(Clone, Copy)]

@@ -1,14 +1,17 @@
 -- The board of a station on one date or on several, as `board` prints it.
-use Rattle.std.specs.Prelude.{ℕ, ◌-◌, min, List, ◌∷◌, ◌++◌, Option, None, Some, map, option_map}
-use Rattle.std.specs.List.{range_with_len}
+use Rattle.std.specs.Prelude.{ℕ, ◌-◌, if◌then◌else◌, min, List, ◌∷◌, ◌++◌, Option, None, Some}
+use Rattle.std.specs.Prelude.{map, option_map, unwrap_or}
+use Rattle.std.specs.List.{flat_map, range_with_len}
 use Rattle.ssim_values.specs.Day.{day_text}
 use Rattle.ssim_values.specs.Calendar.{day_limit}
 use Rattle.ssim_values.specs.Flight.{FlightNumber}
 use Rattle.ssim_base.specs.Export.{line}
 use Rattle.ssim_base.specs.Timetable.{Days}
+use Rattle.ssim_listing.specs.Rows.{row}
 use Rattle.ssim_board.specs.InOrder.{board_of}
 use Rattle.ssim_board.specs.Kinds.{of_kind}
 use Rattle.ssim_board.specs.Lines.{board_lines}
+use Rattle.ssim_board.specs.Rows.{movement_names, movement_rows}
 use Rattle.ssim_board.specs.declared.board.Board.{Board}
 use Rattle.ssim_board.specs.declared.movement.MovementKind.{MovementKind}
 use Rattle.ssim_board.specs.declared.movement.MovementKind.TheVariants.{Departure, Arrival}
@@ -48,6 +51,20 @@ lines_of_days (Some count) only airline days board =
     blocks (map (λ day. headed_lines only airline days (board_on board day))
     (dates_from board.day count))
 
--- the board as the options say
+-- the rows of one date: of its departures and arrivals, or of one direction alone
+abbrev pub date_rows : Option Direction → List ℕ → (FlightNumber → Days) → Board → List ℕ
+date_rows only airline days board =
+    movement_rows airline board.station board.day
+    (of_kind (option_map kind_of only) (board_of board days))
+
+-- the names of the fields, and the rows of as many dates
+abbrev pub rows_of_days : ℕ → Option Direction → List ℕ → (FlightNumber → Days) → Board → List ℕ
+rows_of_days count only airline days board =
+    row movement_names ++ flat_map (λ day. date_rows only airline days (board_on board day))
+    (dates_from board.day count)
+
+-- the board as the options say: as rows, of one date if no number is named, or as lines
 abbrev pub printed_board : BoardForm → List ℕ → (FlightNumber → Days) → Board → List ℕ
-printed_board form airline days board = lines_of_days form.days form.only airline days board
+printed_board form airline days board =
+    if form.csv then rows_of_days (unwrap_or form.days 1) form.only airline days board
+    else lines_of_days form.days form.only airline days board

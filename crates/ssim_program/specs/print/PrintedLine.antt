@@ -4,7 +4,10 @@ use Rattle.std.specs.Fmt.{decimal}
 use Rattle.ssim_schedule.specs.declared.finding.Finding.{Finding}
 use Rattle.ssim_text.specs.Lines.{identifier_text}
 use Rattle.ssim_text.specs.Reference.{printed_reference}
+use Rattle.ssim_text.specs.declared.kind.ActionIdentifier.{ActionIdentifier}
+use Rattle.ssim_text.specs.declared.reference.Reference.{Reference}
 use Rattle.ssim_values.specs.Designator.{designator_text}
+use Rattle.ssim_values.specs.declared.designator.Designator.{Designator}
 use Rattle.ssim_desk.specs.declared.finding_line.FindingLine.{FindingLine}
 use Rattle.ssim_program.specs.declared.print.printed_line.PrintedLine.{PrintedLine}
 use Rattle.ssim_program.specs.declared.print.printed_line.PrintedLine.TheVariants as printed
@@ -49,11 +52,11 @@ finding_text found = sub_text found ++ counts_text found.finding
 abbrev pub finding_names : List ℕ
 finding_names = codes "reference,sub,action,flight,acted,absent,present,no_leg,no_station"
 
--- a sub-message as fields of CSV
-abbrev pub sub_fields : FindingLine → List ℕ
-sub_fields found =
-    printed_reference found.reference ++ 44 ∷ decimal found.sub ++ 44 ∷ identifier_text found.action
-    ++ 44 ∷ designator_text found.designator
+-- a sub-message as fields of CSV: its reference, its number, its action and its flight
+abbrev pub sub_fields : Reference → ℕ → ActionIdentifier → Designator → List ℕ
+sub_fields reference number action designator =
+    printed_reference reference ++ 44 ∷ decimal number ++ 44 ∷ identifier_text action
+    ++ 44 ∷ designator_text designator
 
 -- the numbers of dates as fields of CSV, each after a comma
 abbrev pub count_fields : Finding → List ℕ
@@ -63,4 +66,5 @@ count_fields f =
 
 -- what a sub-message found, as a row of CSV
 abbrev pub finding_row : FindingLine → List ℕ
-finding_row found = sub_fields found ++ count_fields found.finding
+finding_row found =
+    sub_fields found.reference found.sub found.action found.designator ++ count_fields found.finding

@@ -2,7 +2,7 @@
 
 ghost use Rattle.std.specs.Prelude.{◌≡◌, ◌⊎◌, ◌+◌, ◌-◌, ◌≤◌, ◌++◌, ◌∷◌, false, true, map, min};
 ghost use Rattle.std.specs.Prelude.{IfErr, IfOk, OnOk, option_map};
-ghost use Rattle.std.specs.List.{range_with_len};
+ghost use Rattle.std.specs.List.{flat_map, range_with_len};
 ghost use Rattle.ssim_values.specs.Calendar.{day_limit};
 ghost use Rattle.ssim_values.specs.Day.{day_text};
 ghost use Rattle.ssim_values.specs.Flight.{FlightNumber};
@@ -10,14 +10,17 @@ ghost use Rattle.ssim_values.specs.Station.{is_station};
 ghost use Rattle.ssim_values.specs.declared.fault.Fault.TheVariants as value_fault;
 ghost use Rattle.ssim_base.specs.Export.{line};
 ghost use Rattle.ssim_base.specs.Timetable.{Days};
+ghost use Rattle.ssim_listing.specs.Rows.{row};
 ghost use Rattle.ssim_schedule.specs.FlightPieces.{divided_flights};
 ghost use Rattle.ssim_schedule.specs.clauses.Dates.{AgreeBetween};
 ghost use Rattle.ssim_desk.specs.Desk.{days_of_desk};
+ghost use Rattle.ssim_board.specs.Rows.{movement_names};
 ghost use Rattle.ssim_board.specs.clauses.Movements.{first_date, last_date};
 ghost use Rattle.ssim_program.specs.Answers.{board};
 ghost use Rattle.ssim_program.specs.internal.Program.{Answers};
 ghost use Rattle.ssim_program.specs.print.Board.{board_on, date_lines, dates_from, headed_lines};
-ghost use Rattle.ssim_program.specs.print.Board.{kind_of, printed_board};
+ghost use Rattle.ssim_program.specs.print.Board.{date_rows, kind_of, lines_of_days, printed_board};
+ghost use Rattle.ssim_program.specs.print.Board.{rows_of_days};
 ghost use Rattle.ssim_program.specs.print.Refusal.{IsMemory};
 ghost use Rattle.ssim_program.specs.declared.refusal.Refusal.TheVariants as refused;
 ghost use Rattle.ssim_words.specs.Typed.{typed};
@@ -27,7 +30,7 @@ use crate::print::blocks::joined;
 use crate::refusal::Refusal;
 use crate::store::Store;
 use crate::timetable_file::{carrier_of, open_timetable};
-use ssim_board::{Board, MovementKind, board_lines, of_kind};
+use ssim_board::{Board, MovementKind, board_lines, movement_names, of_kind, push_movements};
 use ssim_command_line::{BoardForm, Direction};
 use ssim_desk::Holdings;
 use ssim_schedule::FlightPieces;
@@ -75,6 +78,25 @@ fn printed_board(
     ensures { IfOk result (λ lines. lines.items
         ≡ printed_board form airline (days_of_desk desk) board.now) }
 {
+    if form.csv {
+        let count = form.days.unwrap_or(1);
+        rows_of_days(alloc, count, form.only, airline, board, desk)
+    } else {
+        lines_of_days(alloc, form, airline, board, desk)
+    }
+}
+
+/// The lines of one date without a heading, or of several.
+fn lines_of_days(
+    alloc: Global,
+    form: BoardForm,
+    airline: Airline,
+    board: &Board,
+    desk: Holdings,
+) -> Result<Vec<u8>, Memory>
+    ensures { IfOk result (λ lines. lines.items
+        ≡ lines_of_days form.days form.only airline (days_of_desk desk) board.now) }
+{
     match form.days {
         None => {
             let flights = desk.into_flights_between(board.first_date(), board.last_date())?;
@@ -88,6 +110,77 @@ fn printed_board(
             joined(alloc, &shown)
         }
     }
+}
+
+/// The row of names, and the rows of as many dates.
+fn rows_of_days(
+    alloc: Global,
+    count: u16,
+    only: Option<Direction>,
+    airline: Airline,
+    board: &Board,
+    desk: Holdings,
+) -> Result<Vec<u8>, Memory>
+    ensures { IfOk result (λ rows. rows.items
+        ≡ rows_of_days count only airline (days_of_desk desk) board.now) }
+{
+    let end = end_of(board.day, count);
+    let last = board_on(board, day_before(end));
+    let flights = desk.into_flights_between(board.first_date(), last.last_date())?;
+    rows_of_dates(alloc, only, airline, board, end, &flights)
+}
+
+/// The row of names, and the rows of each date from the board's to that before `end`.
+fn rows_of_dates(
+    alloc: Global,
+    only: Option<Direction>,
+    airline: Airline,
+    board: &Board,
+    end: u16,
+    flights: &[FlightPieces],
+) -> Result<Vec<u8>, Memory>
+    requires { end ≤ 36525 }
+    ensures { IfOk result (λ rows. (days near : FlightNumber → Days)
+        → flights.now ≡ divided_flights near
+        → AgreeBetween (first_date board.now) (last_date (board_on board.now (end - 1))) near days
+        → rows.items ≡ row movement_names
+        ++ flat_map (λ day. date_rows only airline days (board_on board.now day))
+        (range_with_len board.now.day (end - board.now.day))) }
+{
+    let mut rows = movement_names(alloc)?;
+    for number in board.day.number()..end {
+        let Some(day) = Day::from_number(number) else {
+            unreachable!();
+        };
+        push_date(
+            alloc,
+            &mut rows,
+            only,
+            airline,
+            &board_on(board, day),
+            flights,
+        )?;
+    }
+    Ok(rows)
+}
+
+/// Adds the rows of one date.
+fn push_date(
+    alloc: Global,
+    rows: &mut Vec<u8>,
+    only: Option<Direction>,
+    airline: Airline,
+    board: &Board,
+    flights: &[FlightPieces],
+) -> Result<(), Memory>
+    ensures { OnOk result ((days near : FlightNumber → Days)
+        → flights.now ≡ divided_flights near
+        → AgreeBetween (first_date board.now) (last_date board.now) near days
+        → rows.new.items ≡ rows.old.items ++ date_rows only airline days board.now) }
+{
+    let movements = board.movements(alloc, flights)?;
+    let shown = of_kind(movements, kind_of(only));
+    push_movements(alloc, rows, airline, board, &shown)
 }
 
 /// The number after the last of so many dates from one on, none of them after the calendar.

@@ -1,16 +1,18 @@
-//! The command `texts`: the messages that a desk holds, as their canonical texts.
+//! The command `texts`: the messages that a desk holds, as their canonical texts; or their
+//! sub-messages as CSV.
 
 ghost use Rattle.std.specs.Prelude.{◌≡◌, ◌++◌, [], ◌∷◌, if◌then◌else◌, IfOk, OnOk, map};
 ghost use Rattle.std.specs.List.{list_any};
 ghost use Rattle.ssim_text.specs.Canonical.{canonical};
 ghost use Rattle.ssim_command_line.specs.Line.{span_line};
 ghost use Rattle.ssim_program.specs.Messages.{is_all, is_chosen, is_sub_chosen, message_texts};
-ghost use Rattle.ssim_program.specs.Messages.{messages_on};
+ghost use Rattle.ssim_program.specs.Messages.{messages_on, printed_messages};
 ghost use Rattle.ssim_program.specs.Answers.{texts};
 ghost use Rattle.ssim_program.specs.internal.Program.{Answers};
 
 use crate::command::span::{dates_alone, has_date, has_end, has_flight};
 use crate::desk_file::open_holdings;
+use crate::print::sub_rows::rows_of;
 use crate::refusal::Refusal;
 use crate::store::Store;
 use ssim_base::ResolvedSub;
@@ -21,23 +23,43 @@ use ssim_values::{Flight, Memory};
 use std::alloc::Global;
 
 /// The texts of the messages that the desk in a file holds; with flights or a span of dates, of
-/// those of which one sub-message is of such a flight and has such a date.
+/// those of which one sub-message is of such a flight and has such a date. As CSV, a row for each
+/// such sub-message.
 pub(crate) fn texts<S: Store>(
     alloc: Global,
+    csv: bool,
     span: SpanWords<'_>,
     file: &str,
     flights: &[&str],
     store: &mut S,
 ) -> Result<Vec<u8>, Refusal>
-    ensures answer { Answers (texts (S.files store.old) (span_line span.entry) file.now
+    ensures answer { Answers (texts (S.files store.old) csv (span_line span.entry) file.now
         (map (λ t. t.now) flights.now)) result }
     ensures same { S.files store.new ≡ S.files store.old }
     ensures counted { S.failures store.new ≡ S.failures store.old }
 {
     let desk = open_holdings(alloc, file, store)?;
     let choice = dates_alone(alloc, desk.data_set().airline(), span, flights)?;
-    let texts = texts_of(alloc, desk.held(), has_end(span), &choice)?;
-    Ok(texts)
+    let text = printed(alloc, csv, desk.held(), has_end(span), &choice)?;
+    Ok(text)
+}
+
+/// The rows of the chosen sub-messages, or the texts of the chosen messages.
+fn printed(
+    alloc: Global,
+    csv: bool,
+    held: &[Held],
+    has_span: bool,
+    choice: &Choice,
+) -> Result<Vec<u8>, Memory>
+    ensures { IfOk result
+        (λ text. text.items ≡ printed_messages csv has_span choice.now held.now) }
+{
+    if csv {
+        rows_of(alloc, held, has_span, choice)
+    } else {
+        texts_of(alloc, held, has_span, choice)
+    }
 }
 
 /// The texts of the chosen messages, with an empty line between two.
@@ -106,7 +128,7 @@ fn has_chosen_sub(message: &Held, has_span: bool, choice: &Choice) -> bool
 }
 
 /// Whether a sub-message is of a chosen flight and, if a span is given, has a chosen date.
-fn is_sub_chosen(sub: &ResolvedSub, has_span: bool, choice: &Choice) -> bool
+pub(crate) fn is_sub_chosen(sub: &ResolvedSub, has_span: bool, choice: &Choice) -> bool
     ensures { result ≡ is_sub_chosen has_span choice.now sub.now }
 {
     has_flight(choice, sub.flight) && (!has_span || has_date(&sub.period, choice))

@@ -4,12 +4,13 @@ ghost use Rattle.std.specs.Prelude.{◌≡◌, ◌++◌, [], IfOk, OnOk, if◌th
 ghost use Rattle.ssim_base.specs.Export.{line};
 ghost use Rattle.ssim_program.specs.Spans.{lines_found};
 ghost use Rattle.ssim_program.specs.print.PrintedLine.{count_fields, counts_text, finding_names};
-ghost use Rattle.ssim_program.specs.print.PrintedLine.{finding_row, finding_text, sub_fields, sub_text};
+ghost use Rattle.ssim_program.specs.print.PrintedLine.{finding_row, finding_text, sub_text};
 ghost use Rattle.ssim_program.specs.print.Shown.{chosen_line, fails, findings_lines, has_dates};
 ghost use Rattle.ssim_program.specs.print.Shown.{is_shown};
 
 use crate::chosen_findings::findings_on;
 use crate::command::span::has_flight;
+use crate::print::sub_rows::push_sub_fields;
 use ssim_command_line::FindingsForm;
 use ssim_desk::{FindingLine, Holdings};
 use ssim_lines::{Printed, push_each, written};
@@ -141,22 +142,14 @@ fn push_finding(lines: &mut Vec<u8>, found: &FindingLine) -> Result<(), Memory>
 fn push_row(lines: &mut Vec<u8>, found: &FindingLine) -> Result<(), Memory>
     ensures { OnOk result (lines.new.items ≡ lines.old.items ++ line (finding_row found.now)) }
 {
-    push_sub_fields(lines, found)?;
+    push_sub_fields(
+        lines,
+        &found.reference,
+        found.sub,
+        found.action,
+        &found.designator,
+    )?;
     push_count_fields(lines, &found.finding)
-}
-
-/// Adds the first fields of a row: which sub-message it is.
-fn push_sub_fields(lines: &mut Vec<u8>, found: &FindingLine) -> Result<(), Memory>
-    ensures { OnOk result (lines.new.items ≡ lines.old.items ++ sub_fields found.now) }
-{
-    let FindingLine {
-        reference,
-        sub,
-        action,
-        designator,
-        finding: _,
-    } = *found;
-    written(write!(lines, "{reference},{sub},{action},{designator}"))
 }
 
 /// Adds the last fields of a row: how many dates got each reason.

@@ -93,6 +93,15 @@ pub(crate) fn add_line<D: fmt::Display>(lines: &mut Vec<u8>, shown: &D) -> Resul
     written(writeln!(lines, "{shown}"))
 }
 
+/// The text of what is displayed.
+pub(crate) fn text_of<D: fmt::Display>(alloc: Global, shown: &D) -> Result<Vec<u8>, Memory>
+    ensures { IfOk result (λ bytes. IfSome (D.output shown.now) (λ text. bytes.items ≡ text)) }
+{
+    let mut bytes = Vec::new(alloc);
+    written(write!(bytes, "{shown}"))?;
+    Ok(bytes)
+}
+
 /// The line of what is displayed, with its end.
 pub(crate) fn line_of<D: fmt::Display>(alloc: Global, shown: &D) -> Result<Vec<u8>, Memory>
     ensures { IfOk result (λ bytes. IfSome (D.output shown.now) (λ text. bytes.items ≡ line text)) }

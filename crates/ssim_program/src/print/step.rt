@@ -86,7 +86,7 @@ fn push_step_text(lines: &mut Vec<u8>, step: &DateStep) -> Result<(), Memory>
 }
 
 /// What a sub-message found, in a word of `findings`.
-fn word_of(reason: Reason) -> &'static str
+pub(crate) fn word_of(reason: Reason) -> &'static str
     ensures { result.now ≡ reason_word reason }
 {
     match reason {

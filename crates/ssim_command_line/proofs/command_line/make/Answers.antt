@@ -38,6 +38,6 @@ returns-in_ok-to_vec-in-len2-up-values-3 c =
 pub returns-in_ok-to_vec-in-len2-up-values-4 : goal.returns-in_ok-to_vec-in-len2-up-values-4
 returns-in_ok-to_vec-in-len2-up-values-4 c =
     let is : c.args.name.now ≡ codes "history" = search rules in
-    several_made History _ (codes "history") (rows_of (found_of c.args.inner.now)) _ _ _ _ is
-    (λ vs. refl) c.in-len3-up-values-4.len_at_least
+    several_made (History c.csv_of-in-len2-up-values-4.result) _ (codes "history") (rows_of (found_of c.args.inner.now))
+    _ _ _ _ is (λ vs. rw c.csv_of-in-len2-up-values-4.ensures refl) c.in-len3-up-values-4.len_at_least
     (c.in_ok-to_vec-in-len2-up-values-4.ensures.items_if_clones_equal (λ x y e. e)) (omega arith)

@@ -132,10 +132,11 @@ pub returns-in-Texts-clause-answer : goal.returns-in-Texts-clause-answer
 returns-in-Texts-clause-answer g c = let old = g.S.Store.files c.args.store.now in
     made_of _ _ _ _ _ c.in-Texts.is
     (lines_of g.S.Hold.Hold.file old
-    (answer.texts old (span_line c.in-Texts.span) c.in-Texts.desk.now
+    (answer.texts old c.in-Texts.csv (span_line c.in-Texts.span) c.in-Texts.desk.now
     (map (λ t. t.now) c.in-Texts.flights.items)) c.texts.result c.lines-in-Texts.result
     (subst (λ (words : List (Bor (List ℕ))). Answers
-    (answer.texts old (span_line c.in-Texts.span) c.in-Texts.desk.now (map (λ t. t.now) words))
+    (answer.texts old c.in-Texts.csv (span_line c.in-Texts.span) c.in-Texts.desk.now
+    (map (λ t. t.now) words))
     c.texts.result) c.deref-in-Texts.ensures.value c.texts.ensures.answer)
     c.lines-in-Texts.ensures)
 
@@ -154,10 +155,10 @@ pub returns-in-History-clause-answer : goal.returns-in-History-clause-answer
 returns-in-History-clause-answer g c = let old = g.S.Store.files c.args.store.now in
     made_of _ _ _ _ _ c.in-History.is
     (lines_of g.S.Hold.Hold.file old
-    (answer.history old c.in-History.file.now c.in-History.flight.now
+    (answer.history old c.in-History.csv c.in-History.file.now c.in-History.flight.now
     (map (λ t. t.now) c.in-History.words.items)) c.history.result c.lines-in-History.result
     (subst (λ (words : List (Bor (List ℕ))). Answers
-    (answer.history old c.in-History.file.now c.in-History.flight.now (map (λ t. t.now) words))
+    (answer.history old c.in-History.csv c.in-History.file.now c.in-History.flight.now (map (λ t. t.now) words))
     c.history.result) c.deref-in-History.ensures.value c.history.ensures.answer)
     c.lines-in-History.ensures)
 

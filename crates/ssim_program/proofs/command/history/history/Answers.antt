@@ -5,8 +5,7 @@ use Rattle.ssim_base.specs.Timetable.{itinerary}
 use Rattle.ssim_schedule.specs.FlightPieces.{in_order}
 use Rattle.ssim_desk.specs.DateSteps.{steps_on}
 use Rattle.ssim_program.specs.Messages.{flights_on}
-use Rattle.ssim_program.specs.print.Blocks.{blocks}
-use Rattle.ssim_program.specs.print.Shown.{history_on}
+use Rattle.ssim_program.specs.print.HistoryRows.{printed_history}
 use Rattle.ssim_program.proofs.command.history.history.Goals as goal
 
 pub returns-in_err-named-clause-answer : goal.returns-in_err-named-clause-answer
@@ -26,9 +25,7 @@ returns-clause-answer g c =
     let desk = c.in_ok-desk.desk in
     let numbers = c.in_ok-named.named.items in
     let day = c.in_ok-named.day in
-    let airline = c.airline-airline.result in
     let here = c.airline-airline.ensures ∙ ap airline_of c.data_set.ensures in
-    let of_one = λ (a : List ℕ). history_on a (itinerary desk.base.records) (steps_on desk) day in
     let ordered =
     c.deref-2.ensures.value ∙ c.in_ok-flights.ensures ∙ ap in_order c.deref.ensures.value in (
       desk,
@@ -38,8 +35,7 @@ returns-clause-answer g c =
         subst (λ (a : List ℕ). flights_on a c.args.flight.now
             (map (λ t. t.now) c.args.words.now) (Ok (numbers, day))) here c.in_ok-named.ensures.ok,
         c.in_ok-lines.ensures
-            ∙ ap blocks (ap (map (λ b. b.items)) c.deref-3.ensures.value
-            ∙ c.in_ok-histories.ensures ∙ ap (map (of_one airline)) ordered)
-            ∙ ap (λ (a : List ℕ). blocks (map (of_one a) (in_order numbers))) here,
+            ∙ (λ i. printed_history c.args.csv (here i) (itinerary desk.base.records) (steps_on desk) day
+            (ordered i)),
       ),
     )

@@ -4,7 +4,7 @@ use Rattle.ssim_base.specs.Base.{airline_of}
 use Rattle.ssim_command_line.specs.Line.{span_line}
 use Rattle.ssim_program.specs.Choices.{choice_in}
 use Rattle.ssim_program.specs.Spans.{dates_alone}
-use Rattle.ssim_program.specs.Messages.{message_texts, messages_on}
+use Rattle.ssim_program.specs.Messages.{printed_messages}
 use Rattle.ssim_program.proofs.command.texts.texts.Goals as goal
 
 pub returns-in_err-choice-clause-answer : goal.returns-in_err-choice-clause-answer
@@ -30,7 +30,7 @@ returns-clause-answer g c =
         choice,
         subst (λ (a : List ℕ). choice_in a (dates_alone (span_line c.args.span))
             (map (λ t. t.now) c.args.flights.now) (Ok choice)) here c.in_ok-choice.ensures,
-        c.in_ok-texts.ensures
-            ∙ (λ i. message_texts (messages_on (c.has_end.ensures i) choice (c.held.ensures.value i))),
+        c.in_ok-text.ensures
+            ∙ (λ i. printed_messages c.args.csv (c.has_end.ensures i) choice (c.held.ensures.value i)),
       ),
     )

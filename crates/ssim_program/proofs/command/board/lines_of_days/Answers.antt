@@ -8,7 +8,7 @@ use Rattle.ssim_desk.specs.Desk.{days_of_desk}
 use Rattle.ssim_board.specs.clauses.Movements.{first_date, last_date}
 use Rattle.ssim_program.specs.print.Blocks.{blocks}
 use Rattle.ssim_program.specs.print.Board.{board_on, headed_lines, lines_of_days}
-use Rattle.ssim_program.proofs.command.board.printed_board.Goals as goal
+use Rattle.ssim_program.proofs.command.board.lines_of_days.Goals as goal
 
 pub returns-in_ok-shown-in-Some : goal.returns-in_ok-shown-in-Some
 returns-in_ok-shown-in-Some c =
