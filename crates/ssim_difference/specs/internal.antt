@@ -5,3 +5,4 @@ pub mod Choosing
 pub mod Matched
 pub mod Counted
 pub mod KindCounts
+pub mod RowHeads

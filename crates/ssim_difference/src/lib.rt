@@ -7,7 +7,7 @@
 //! - [`chosen_differences`]: the same of the dates of which the old or the new itinerary is chosen.
 //! - [`date_count`]: on how many dates flights differ.
 //! - [`difference_lines`]: the chosen differences as lines, with the old and the new legs.
-//!   [`push_difference`] adds the lines of one difference.
+//!   [`push_difference`] adds the lines of one difference. [`difference_rows`]: the same as CSV.
 //! - [`ChangeKind`]: the kind of a change of a flight date. [`summary_lines`] are the numbers of the
 //!   chosen changes of each kind, as lines.
 //! - [`laws`]: each date that differs is in exactly one period of its flight, and no other date is
@@ -29,6 +29,7 @@ mod flight_difference;
 pub mod laws;
 mod lines;
 mod piece_changes;
+mod rows;
 mod summary;
 mod timetable_difference;
 
@@ -37,6 +38,7 @@ pub use dates::date_count;
 pub use difference::Difference;
 pub use flight_difference::FlightDifference;
 pub use lines::{difference_lines, push_difference};
+pub use rows::difference_rows;
 pub use ssim_values::Memory;
 pub use summary::summary_lines;
 pub use timetable_difference::{chosen_differences, differences};

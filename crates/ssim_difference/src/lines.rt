@@ -177,7 +177,7 @@ impl PrintedAt for LegPairs<'_, '_> {
 }
 
 // The leg with a sequence.
-fn leg_at(legs: &[PlacedLeg], sequence: u8) -> Option<&PlacedLeg>
+pub(crate) fn leg_at(legs: &[PlacedLeg], sequence: u8) -> Option<&PlacedLeg>
     ensures { option_map (λ leg. leg.now) result ≡ leg_at legs.now sequence }
 {
     legs.iter().find(|leg| leg.sequence() == sequence)
