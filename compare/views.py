@@ -12,8 +12,8 @@ board, in its order.
 
 A case of `changes` has two files FROM and TO, as in `days`. `diff` with a choice has to print what follows from the dates that differ and of
 which the itinerary in FROM or that in TO is chosen, each taken or left by itself; and `diff --summary` how many of them are of each kind, which
-add up, and turned round are the same but for `added` and `cancelled`. With `--status` the status has to be 3 if there are such dates. In a case
-of `change words` some words are invalid.
+add up, and turned round are the same but for `added` and `cancelled`; and `diff --csv` a row for each leg of each period, with the kind and the
+side. With `--status` the status has to be 3 if there are such dates. In a case of `change words` some words are invalid.
 
 A case of `spans` has a desk with some messages, whose dates the model of `carry` finds in the desk file. With a span `findings` has to count what
 `history` says of each of these dates, and `texts` has to print the messages, or as CSV the sub-messages, that follow from them. `history --csv` has
@@ -246,6 +246,10 @@ def of_changes(rng, room):
         return
     whole = differing(old, new)
     yield "diff", room("diff", "FROM", "TO"), said(whole)
+    yield "diff --csv", room("diff", "--csv", "FROM", "TO"), said(differing_rows(old, new, kind_of))
+    for words in ["--csv", "--summary", "FROM", "TO"], ["FROM", "--summary", "TO", "--csv"]:
+        yield f"diff {words}", room("diff", *words), NO_COMMAND
+    yield "diff --csv twice", room("diff", "--csv", "--csv", "FROM", "TO").status, 2
     yield from of_summary(room, ["FROM", "TO"], old, new)
     for _ in range(4):
         chosen = parts.choice(rng, rng.choice([old, new]))
@@ -255,6 +259,9 @@ def of_changes(rng, room):
         yield f"diff {before} {after}", room("diff", *before, "FROM", "TO", *after), said(wanted)
         found = said(wanted)._replace(status=0 if wanted == ["same"] else 3)
         yield f"diff --status {before} {after}", room("diff", *before, "FROM", "--status", "TO", *after), found
+        in_rows = said(differing_rows(*taken_of_both(old, new, chosen), kind_of))
+        yield f"diff --csv {before} {after}", room("diff", *before, "FROM", "TO", *after, "--csv"), in_rows
+        yield f"diff --csv --status {before} {after}", room("diff", "--status", "--csv", *before, "FROM", "TO", *after), in_rows._replace(status=found.status)
         yield from of_summary(room, [*before, "FROM", "TO", *after], *taken_of_both(old, new, chosen))
 
 

@@ -70,6 +70,7 @@ COMMANDS = [
     ("page", ["page", "desk"], None),
     ("diff", ["diff", "theirs", "desk"], None),
     ("diff --summary", ["diff", "--summary", "theirs", "desk"], None),
+    ("diff --csv", ["diff", "--csv", "theirs", "desk"], None),
     ("diff of a part", ["diff", "--station", "LHR", "--aircraft", "320", "--from", "1jul25", "theirs", "desk", "LX544", "LX540"], None),
     ("publish", ["publish", "desk", "theirs", "05JUN00001E001", "new"], "new"),
     ("findings", ["findings", "desk"], None),

@@ -2,7 +2,7 @@
 use Rattle.std.proofs.Common.{◌≡◌, true, false, refl, [], ◌∷◌, Some, None, codes}
 use Rattle.clap.proofs.OnLiterals.{clap_on_literals}
 use Rattle.ssim_command_line.specs.Line.{Board, Calendar, ChoiceTexts, Diff, Findings, Listing, Receive}
-use Rattle.ssim_command_line.specs.Line.{Select, days_in}
+use Rattle.ssim_command_line.specs.Line.{Select, days_in, diff_form_with}
 use Rattle.ssim_command_line.specs.declared.board_form.Direction.TheVariants.{Arrivals}
 use Rattle.ssim_command_line.specs.Usage.{Names}
 
@@ -57,7 +57,7 @@ two_flights = record { right = refl; name = codes "calendar"; rows = _; entered 
 -- `diff --station KEF season.ssim fdh.desk 341 --summary`: a flight between two timetables
 one_flight : Names (codes "ssimdesk" ∷ codes "diff" ∷ codes "--station" ∷ codes "KEF"
     ∷ codes "season.ssim" ∷ codes "fdh.desk" ∷ codes "341" ∷ codes "--summary" ∷ [])
-    (Diff (record { summary = true; status = false }) (record {
+    (Diff (record { csv = false; summary = true; status = false }) (record {
       from = None;
       to = None;
       stations = codes "KEF" ∷ [];
@@ -66,6 +66,18 @@ one_flight : Names (codes "ssimdesk" ∷ codes "diff" ∷ codes "--station" ∷ 
     (codes "season.ssim") (codes "fdh.desk") (codes "341" ∷ []))
 unfolding clap_on_literals
 one_flight = record { right = refl; name = codes "diff"; rows = _; entered = refl; read = refl }
+
+-- `diff season.ssim fdh.desk --csv --status`: rows, and a status
+rows_of_all : Names (codes "ssimdesk" ∷ codes "diff" ∷ codes "season.ssim" ∷ codes "fdh.desk"
+    ∷ codes "--csv" ∷ codes "--status" ∷ [])
+    (Diff (record { csv = true; summary = false; status = true }) all_dates (codes "season.ssim")
+    (codes "fdh.desk") [])
+unfolding clap_on_literals
+rows_of_all = record { right = refl; name = codes "diff"; rows = _; entered = refl; read = refl }
+
+-- rows of changes and how many there are of each kind are not printed together
+no_form : diff_form_with true true false ≡ None
+no_form = refl
 
 -- `findings --from 20jul27 fdh.desk 341`: a span without an end
 from_a_date : Names (codes "ssimdesk" ∷ codes "findings" ∷ codes "--from" ∷ codes "20jul27"

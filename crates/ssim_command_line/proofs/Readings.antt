@@ -1,6 +1,6 @@
 -- What each command of the table makes of plain values: no fault, and the line that they spell.
 use Rattle.std.proofs.Common.{◌≡◌, ◌∙◌, true, false, refl, sym, ap, List, [], ◌∷◌, ◌++◌, Option, Some, None}
-use Rattle.std.proofs.Common.{append-nil, append_assoc, codes, is_some, true≢false}
+use Rattle.std.proofs.Common.{append-nil, append_assoc, codes, is_some, option_map, true≢false}
 use Rattle.std.specs.List.{fold}
 use Rattle.clap.specs.Kinds.{Kinds}
 use Rattle.clap.specs.Simple.{Shape, built_leaf, filled, inherited, marked_built, with_leaf_noted}
@@ -12,14 +12,16 @@ use Rattle.ssim_command_line.specs.Line.{one, one_and_several, one_and_texts, on
 use Rattle.ssim_command_line.specs.Line.{one_or_two_values, one_value, three}
 use Rattle.ssim_command_line.specs.Line.{three_values, two, two_and_texts}
 use Rattle.ssim_command_line.specs.Line.{board_form_of, board_words, formed_three}
-use Rattle.ssim_command_line.specs.Line.{choice_of, choice_words, diff_form_of, findings_form_of, flag, form_of}
+use Rattle.ssim_command_line.specs.Line.{choice_of, choice_words, diff_form_of, diff_words}
+use Rattle.ssim_command_line.specs.Line.{findings_form_of, flag, form_of}
 use Rattle.ssim_command_line.specs.Line.{is_given, optional, problems_form_of}
 use Rattle.ssim_command_line.specs.Line.{several_texts, span_of, span_words}
-use Rattle.ssim_command_line.specs.Line.{two_and_any, two_values, values_in}
+use Rattle.ssim_command_line.specs.Line.{formed_two_and_any, two_values, values_in}
 use Rattle.ssim_command_line.specs.Line.{Board, Calendar, Check, Diff, Explain, Export, Findings, History, Listing}
 use Rattle.ssim_command_line.specs.Line.{Merge, Page, Problems, Publish, Receive, Rehearse, Select, Show, Start}
 use Rattle.ssim_command_line.specs.Line.{Carry, Convert, Info, Split, Stations, Take, Texts, Tidy, Withdraw, mode_and_two}
 use Rattle.ssim_command_line.specs.declared.board_form.BoardForm.{BoardForm}
+use Rattle.ssim_command_line.specs.declared.command_line.DiffForm.{DiffForm}
 use Rattle.ssim_command_line.specs.declared.command_line.ModeWord.{ModeWord}
 use Rattle.ssim_command_line.specs.Usage.{bare_program, leaf}
 use Rattle.ssim_command_line.proofs.PlainWords.{Outcome, outcome, plain_walked, step_at}
@@ -205,14 +207,16 @@ several_reader name words make r (a ∷ []) e = no_line e
 several_reader name words make r (a ∷ b ∷ []) e = no_line e
 several_reader name words make r (a ∷ b ∷ t ∷ rest) e = taken (r a b) t rest
 
-any_reader : (name : Text) (words : List Rule) (make : List Row → Text → Text → List Text → Line)
-    → (let c = by name words (λ rows. two_and_any (make rows)) in
-    (a b : Text) → Reads c (a ∷ b ∷ []) × TakesTexts c (a ∷ b ∷ []) (λ texts. Some (make [] a b texts)))
-    → IsReader (by name words (λ rows. two_and_any (make rows)))
-any_reader name words make r [] e = no_line e
-any_reader name words make r (a ∷ []) e = no_line e
-any_reader name words make r (a ∷ b ∷ []) e = (r a b).0
-any_reader name words make r (a ∷ b ∷ t ∷ rest) e = taken (r a b).1 t rest
+any_reader : (name : Text) (words : List Rule) (make : List Row → DiffForm → Text → Text → List Text → Line)
+    (form : List Row → Option DiffForm)
+    → (let c = by name words (λ rows. formed_two_and_any (make rows) (form rows)) in
+    (a b : Text) → Reads c (a ∷ b ∷ [])
+    × TakesTexts c (a ∷ b ∷ []) (λ texts. option_map (λ f. make [] f a b texts) (form [])))
+    → IsReader (by name words (λ rows. formed_two_and_any (make rows) (form rows)))
+any_reader name words make form r [] e = no_line e
+any_reader name words make form r (a ∷ []) e = no_line e
+any_reader name words make form r (a ∷ b ∷ []) e = (r a b).0
+any_reader name words make form r (a ∷ b ∷ t ∷ rest) e = taken (r a b).1 t rest
 
 -- ---- the commands
 
@@ -286,9 +290,8 @@ calendar_row = by (codes "calendar") (one_value ++ several_texts ∷ choice_word
     (λ rows. one_and_several (Calendar (choice_of rows)))
 
 abbrev pub diff_row : Command
-diff_row = by (codes "diff")
-    (two_values ++ any_texts ∷ flag (codes "summary") ∷ flag (codes "status") ∷ choice_words)
-    (λ rows. two_and_any (Diff (diff_form_of rows) (choice_of rows)))
+diff_row = by (codes "diff") (two_values ++ any_texts ∷ diff_words)
+    (λ rows. formed_two_and_any (λ form. Diff form (choice_of rows)) (diff_form_of rows))
 
 abbrev pub findings_row : Command
 findings_row = by (codes "findings")
@@ -365,7 +368,7 @@ calendar_read = some_reader calendar_row.name calendar_row.words (λ rows. Calen
 
 pub diff_read : IsReader diff_row
 unfolding clap_on_literals
-diff_read = any_reader diff_row.name diff_row.words (λ rows. Diff (diff_form_of rows) (choice_of rows))
+diff_read = any_reader diff_row.name diff_row.words (λ rows form. Diff form (choice_of rows)) diff_form_of
     (λ a b. (refl, record { enter = λ t rest. refl; first = λ t u. refl; later = λ x seen t u. refl }))
 
 pub findings_read : IsReader findings_row

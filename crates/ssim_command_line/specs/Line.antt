@@ -183,10 +183,17 @@ is_given name rows = option_map_or (λ text. bytes_eq text (codes "true")) (firs
 abbrev pub form_of : List Row → ListForm
 form_of rows = record { csv = is_given (codes "csv") rows; dates = is_given (codes "dates") rows }
 
--- which of the options of `diff` are given
-abbrev pub diff_form_of : List Row → DiffForm
+-- how `diff` prints with --csv, --summary and --status: not with both of the first
+abbrev pub diff_form_with : Bool → Bool → Bool → Option DiffForm
+diff_form_with true true status = None
+diff_form_with csv summary status =
+    Some (record { csv = csv; summary = summary; status = status })
+
+-- how `diff` prints, if its options say it
+abbrev pub diff_form_of : List Row → Option DiffForm
 diff_form_of rows =
-    record { summary = is_given (codes "summary") rows; status = is_given (codes "status") rows }
+    diff_form_with (is_given (codes "csv") rows) (is_given (codes "summary") rows)
+    (is_given (codes "status") rows)
 
 -- which of the options of `problems` are given
 abbrev pub problems_form_of : List Row → ProblemsForm
@@ -271,9 +278,14 @@ abbrev pub board_words : List Rule
 board_words =
     flag (codes "csv") ∷ optional (codes "days") ∷ flag (codes "departures") ∷ flag (codes "arrivals") ∷ []
 
+-- the options of `diff`
+abbrev pub diff_words : List Rule
+diff_words =
+    flag (codes "csv") ∷ flag (codes "summary") ∷ flag (codes "status") ∷ choice_words
+
 -- ---- the line that values make: of as many as it names, or of those and the texts after them. One
 -- of two may be missing, which is the first of them. A time mode is one of two words. The options of
--- `board` may say no form.
+-- `board` and of `diff` may say no form.
 
 abbrev pub one : (Text → Line) → List Text → Option Line
 one make (a ∷ []) = Some (make a)
@@ -317,9 +329,10 @@ abbrev pub two_and_texts : (Text → Text → List Text → Line) → List Text 
 two_and_texts make (a ∷ b ∷ t ∷ texts) = Some (make a b (t ∷ texts))
 two_and_texts make _ = None
 
-abbrev pub two_and_any : (Text → Text → List Text → Line) → List Text → Option Line
-two_and_any make (a ∷ b ∷ texts) = Some (make a b texts)
-two_and_any make _ = None
+abbrev pub formed_two_and_any : (DiffForm → Text → Text → List Text → Line) → Option DiffForm
+    → List Text → Option Line
+formed_two_and_any make form (a ∷ b ∷ texts) = option_map (λ f. make f a b texts) form
+formed_two_and_any make form _ = None
 
 -- ---- the table
 
@@ -388,8 +401,8 @@ commands =
     ∷ command (codes "stations") one_value (one Stations)
     ∷ record {
       name = codes "diff";
-      words = two_values ++ any_texts ∷ flag (codes "summary") ∷ flag (codes "status") ∷ choice_words;
-      make = λ rows. two_and_any (Diff (diff_form_of rows) (choice_of rows));
+      words = two_values ++ any_texts ∷ diff_words;
+      make = λ rows. formed_two_and_any (λ form. Diff form (choice_of rows)) (diff_form_of rows);
     }
     ∷ command (codes "publish") four_values (four Publish)
     ∷ command (codes "page") one_or_two_values (one_or_two Page)

@@ -3,8 +3,8 @@ ghost use Rattle.std.specs.Prelude.{◌≡◌, ◌++◌, [], IfErr, IfOk, MatchR
 ghost use Rattle.std.specs.Prelude.{option_map, unwrap_or};
 ghost use Rattle.clap.specs.Words.{all_of, app_of, found_of, first_of, rows_of};
 ghost use Rattle.ssim_command_line.specs.Line.{Line, Spells, form_of, is_given, line_from, values_in};
-ghost use Rattle.ssim_command_line.specs.Line.{choice_line, choice_of, diff_form_of, findings_form_of};
-ghost use Rattle.ssim_command_line.specs.Line.{line_of};
+ghost use Rattle.ssim_command_line.specs.Line.{choice_line, choice_of, diff_form_of, diff_form_with};
+ghost use Rattle.ssim_command_line.specs.Line.{findings_form_of, line_of};
 ghost use Rattle.ssim_command_line.specs.Line.{mode_of, problems_form_of};
 ghost use Rattle.ssim_command_line.specs.Line.{span_line, span_of};
 ghost use Rattle.ssim_command_line.specs.Usage.{Names, line_at};
@@ -30,6 +30,8 @@ pub struct ListForm {
 /// How `diff` prints the changes.
 #[derive(Clone, Copy, Debug, PartialEq, Eq)]
 pub struct DiffForm {
+    /// As CSV. Then there are no numbers.
+    pub csv: bool,
     /// As numbers of each kind of change.
     pub summary: bool,
     /// With a status that says whether there are changes.
@@ -333,6 +335,22 @@ macro_rules! request {
         }
     };
     (($alloc:expr, $inner:expr, $values:expr)
+        $name:ident($($field:ident),+; $texts:ident; $form:ident?: $by:ident;
+            $options:ident = $of:ident)) => {
+        match $values {
+            [$($field),+, $texts @ ..] => match $by($inner) {
+                Some($form) => Ok(Some(Request::$name {
+                    $($field: *$field,)+
+                    $texts: $texts.to_vec($alloc)?,
+                    $form,
+                    $options: $of($alloc, $inner)?,
+                })),
+                None => Ok(None),
+            },
+            _ => Ok(None),
+        }
+    };
+    (($alloc:expr, $inner:expr, $values:expr)
         $name:ident($($field:ident),+; $texts:ident; $form:ident: $by:ident;
             $options:ident = $of:ident)) => {
         match $values {
@@ -460,14 +478,30 @@ fn form_of(inner: &ArgMatches<'_>) -> ListForm
     }
 }
 
-/// Which of the options of `diff` are given.
-fn diff_form_of(inner: &ArgMatches<'_>) -> DiffForm
+/// How `diff` prints with `--csv`, `--summary` and `--status`: not with both of the first.
+fn diff_form_with(csv: bool, summary: bool, status: bool) -> Option<DiffForm>
+    ensures { result ≡ diff_form_with csv summary status }
+{
+    if csv && summary {
+        None
+    } else {
+        Some(DiffForm {
+            csv,
+            summary,
+            status,
+        })
+    }
+}
+
+/// How `diff` prints.
+fn diff_form_of(inner: &ArgMatches<'_>) -> Option<DiffForm>
     ensures { result ≡ diff_form_of (rows_of (found_of inner.now)) }
 {
-    DiffForm {
-        summary: is_given(inner, "summary"),
-        status: is_given(inner, "status"),
-    }
+    diff_form_with(
+        is_given(inner, "csv"),
+        is_given(inner, "summary"),
+        is_given(inner, "status"),
+    )
 }
 
 /// Which of the options of `findings` are given.

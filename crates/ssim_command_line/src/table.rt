@@ -341,10 +341,10 @@ Example:
   ssimdesk stations season.ssim > mine.txt
   ssimdesk start season.ssim mine.txt fdh.desk
 Exit status: 0; 1 if the file is refused."
-        "diff" [First("FROM"), Second("TO"), Any("FLIGHT"), Flag("summary"), Flag("status"),
-            Valued("from", "DATE"), Valued("to", "DATE"), Repeated("station", "STATION"),
-            Repeated("aircraft", "TYPE")]
-            => Diff(from, to; flights; form: diff_form_of; choice = choice_of)
+        "diff" [First("FROM"), Second("TO"), Any("FLIGHT"), Flag("csv"), Flag("summary"),
+            Flag("status"), Valued("from", "DATE"), Valued("to", "DATE"),
+            Repeated("station", "STATION"), Repeated("aircraft", "TYPE")]
+            => Diff(from, to; flights; form?: diff_form_of; choice = choice_of)
         "Print on which dates two timetables differ, and how"
         "\
 Example:
@@ -371,6 +371,8 @@ prints no periods, but how many flights and dates have each kind of change:
   ...
 The kinds are 'added', 'cancelled', 'rerouted', 'retimed', 'equipment' and
 'other'. Each date has the first that fits; a flight counts in each that it has.
+With --csv it prints a row for each leg, with the kind and the side: 'old',
+'new' or 'both'.
 Exit status: 0, also if they differ, but then 3 with --status; 1 if a file is
 refused, the airline (41) or the time mode (40) of TO is another one, a word is
 no flight (6), station (3), aircraft type (25) or date (1), the airline of a

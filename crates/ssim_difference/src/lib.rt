@@ -6,10 +6,10 @@
 //!   the periods on which it does.
 //! - [`chosen_differences`]: the same of the dates of which the old or the new itinerary is chosen.
 //! - [`date_count`]: on how many dates flights differ.
-//! - [`difference_lines`]: the chosen differences as lines, with the old and the new legs.
-//!   [`push_difference`] adds the lines of one difference. [`difference_rows`]: the same as CSV.
+//! - [`difference_lines`]: differences as lines, with the old and the new legs. [`push_difference`]
+//!   adds the lines of one difference. [`difference_rows`]: the same as CSV.
 //! - [`ChangeKind`]: the kind of a change of a flight date. [`summary_lines`] are the numbers of the
-//!   chosen changes of each kind, as lines.
+//!   changes of each kind, as lines.
 //! - [`laws`]: each date that differs is in exactly one period of its flight, and no other date is
 //!   in any; no flight differs exactly if the timetables are equal.
 //!

@@ -5,8 +5,7 @@ ghost use Rattle.std.specs.List.{flat_map};
 ghost use Rattle.std.specs.Option.{option_map};
 ghost use Rattle.ssim_values.specs.Flight.{FlightNumber};
 ghost use Rattle.ssim_base.specs.Timetable.{Days};
-ghost use Rattle.ssim_schedule.specs.FlightPieces.{divided_flights};
-ghost use Rattle.ssim_difference.specs.ChosenDates.{chosen_side};
+ghost use Rattle.ssim_difference.specs.Differences.{differences};
 ghost use Rattle.ssim_difference.specs.Lines.{both_lines, changed_legs, changed_lines};
 ghost use Rattle.ssim_difference.specs.Lines.{difference_legs, difference_lines, flight_lines};
 ghost use Rattle.ssim_difference.specs.Lines.{last_line, leg_at, listed_lines, none_line};
@@ -16,11 +15,9 @@ ghost use Rattle.ssim_difference.specs.Lines.{signed_line};
 use crate::dates::date_count;
 use crate::difference::Difference;
 use crate::flight_difference::FlightDifference;
-use crate::timetable_difference::chosen_differences;
 use ssim_lines::{Printed, PrintedAt, push_each, push_range, written};
 use ssim_listing::{is_like, mark_of, name_of, push_leg_text, push_period};
-use ssim_parts::Choice;
-use ssim_schedule::{FlightPieces, PlacedLeg};
+use ssim_schedule::PlacedLeg;
 use ssim_values::{Airline, Memory, Period};
 use std::alloc::Global;
 use std::io::Write;
@@ -47,26 +44,22 @@ struct LegPairs<'a, 'b> {
     new: &'b [PlacedLeg],
 }
 
-/// The lines of the chosen dates of two timetables of an airline: those of the flights that differ,
-/// each with the periods on which it does and the old and new legs of each; and a last line, with the
-/// number of these flights and of their dates. The two lists are those of [`differences`].
+/// The lines of the flights of an airline that differ, each with the periods on which it does and the
+/// old and new legs of each; and a last line, with the number of these flights and of their dates. The
+/// flights are those of [`differences`] or of [`chosen_differences`].
 ///
 /// [`differences`]: crate::differences
+/// [`chosen_differences`]: crate::chosen_differences
 pub fn difference_lines(
     alloc: Global,
     airline: Airline,
-    choice: &Choice,
-    old: &[FlightPieces],
-    new: &[FlightPieces],
+    flights: &[FlightDifference],
 ) -> Result<Vec<u8>, Memory>
-    ensures { (before after : FlightNumber → Days)
-        → old.now ≡ divided_flights before → new.now ≡ divided_flights after
-        → IfOk result (λ lines. lines.items ≡ difference_lines airline
-        (chosen_side choice.now before after before) (chosen_side choice.now before after after)) }
+    ensures { (old new : FlightNumber → Days) → flights.now ≡ differences old new
+        → IfOk result (λ lines. lines.items ≡ difference_lines airline old new) }
 {
-    let flights = chosen_differences(alloc, choice, old, new)?;
-    let dates = date_count(alloc, &flights)?;
-    let lines = listed(alloc, airline, &flights, dates)?;
+    let dates = date_count(alloc, flights)?;
+    let lines = listed(alloc, airline, flights, dates)?;
     Ok(lines)
 }
 

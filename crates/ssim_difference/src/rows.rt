@@ -4,8 +4,7 @@ ghost use Rattle.std.specs.Prelude.{◌≡◌, ◌<◌, ◌++◌, ◌∷◌, [],
 ghost use Rattle.std.specs.Option.{option_map};
 ghost use Rattle.ssim_values.specs.Flight.{FlightNumber};
 ghost use Rattle.ssim_base.specs.Timetable.{Days};
-ghost use Rattle.ssim_schedule.specs.FlightPieces.{divided_flights};
-ghost use Rattle.ssim_difference.specs.ChosenDates.{chosen_side};
+ghost use Rattle.ssim_difference.specs.Differences.{differences};
 ghost use Rattle.ssim_difference.specs.Kinds.{kind_name, kind_of};
 ghost use Rattle.ssim_difference.specs.Rows.{both_rows, changed_rows, difference_rows, flight_rows};
 ghost use Rattle.ssim_difference.specs.Rows.{listed_rows, pair_rows, piece_rows, sequence_rows};
@@ -16,11 +15,9 @@ use crate::change_kind::ChangeKind;
 use crate::difference::Difference;
 use crate::flight_difference::FlightDifference;
 use crate::lines::leg_at;
-use crate::timetable_difference::chosen_differences;
 use ssim_lines::{Printed, PrintedAt, push_each, push_range};
 use ssim_listing::{iso_date, name_of, push_leg_names, push_leg_row};
-use ssim_parts::Choice;
-use ssim_schedule::{FlightPieces, PlacedLeg};
+use ssim_schedule::PlacedLeg;
 use ssim_values::{Airline, Memory, Period};
 use std::alloc::Global;
 
@@ -60,25 +57,21 @@ struct RowPairs<'a> {
     new: &'a [PlacedLeg],
 }
 
-/// The rows of the chosen dates of two timetables of an airline: a row of names, and for each period
-/// on which a flight differs a row for each old and each new leg, or one for both if they are equal.
-/// The two lists are those of [`differences`].
+/// The rows of the flights of an airline that differ: a row of names, and for each period on which a
+/// flight differs a row for each old and each new leg, or one for both if they are equal. The flights
+/// are those of [`differences`] or of [`chosen_differences`].
 ///
 /// [`differences`]: crate::differences
+/// [`chosen_differences`]: crate::chosen_differences
 pub fn difference_rows(
     alloc: Global,
     airline: Airline,
-    choice: &Choice,
-    old: &[FlightPieces],
-    new: &[FlightPieces],
+    flights: &[FlightDifference],
 ) -> Result<Vec<u8>, Memory>
-    ensures { (before after : FlightNumber → Days)
-        → old.now ≡ divided_flights before → new.now ≡ divided_flights after
-        → IfOk result (λ rows. rows.items ≡ difference_rows airline
-        (chosen_side choice.now before after before) (chosen_side choice.now before after after)) }
+    ensures { (old new : FlightNumber → Days) → flights.now ≡ differences old new
+        → IfOk result (λ rows. rows.items ≡ difference_rows airline old new) }
 {
-    let flights = chosen_differences(alloc, choice, old, new)?;
-    let rows = listed(alloc, airline, &flights)?;
+    let rows = listed(alloc, airline, flights)?;
     Ok(rows)
 }
 

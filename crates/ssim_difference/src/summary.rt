@@ -3,8 +3,7 @@
 ghost use Rattle.std.specs.Prelude.{◌≡◌, ◌+◌, ◌++◌, IfOk, OnOk};
 ghost use Rattle.ssim_values.specs.Flight.{FlightNumber};
 ghost use Rattle.ssim_base.specs.Timetable.{Days};
-ghost use Rattle.ssim_schedule.specs.FlightPieces.{divided_flights};
-ghost use Rattle.ssim_difference.specs.ChosenDates.{chosen_side};
+ghost use Rattle.ssim_difference.specs.Differences.{differences};
 ghost use Rattle.ssim_difference.specs.Kinds.{counted_line, summary_lines};
 ghost use Rattle.ssim_difference.specs.internal.KindCounts.{all_of_kind, capped, counted_lines};
 ghost use Rattle.ssim_difference.specs.internal.KindCounts.{dates_of_kind, days_of_kind};
@@ -16,11 +15,8 @@ use crate::dates::date_count;
 use crate::difference::Difference;
 use crate::flight_difference::FlightDifference;
 use crate::lines::push_last;
-use crate::timetable_difference::chosen_differences;
 use ssim_lines::{Printed, push_each, written};
-use ssim_parts::Choice;
 use ssim_periods::number_of_days;
-use ssim_schedule::FlightPieces;
 use ssim_values::{Memory, Period};
 use std::alloc::Global;
 use std::io::Write;
@@ -48,26 +44,19 @@ struct KindCount {
     dates: u64,
 }
 
-/// The lines of the chosen dates of two timetables: of each kind of change that has dates the number of
-/// the flights that have such a change and of these dates; and the last line of [`difference_lines`].
-/// The two lists are those of [`differences`].
+/// The lines of the flights that differ: of each kind of change that has dates the number of the
+/// flights that have such a change and of these dates; and the last line of [`difference_lines`]. The
+/// flights are those of [`differences`] or of [`chosen_differences`].
 ///
 /// [`difference_lines`]: crate::difference_lines
 /// [`differences`]: crate::differences
-pub fn summary_lines(
-    alloc: Global,
-    choice: &Choice,
-    old: &[FlightPieces],
-    new: &[FlightPieces],
-) -> Result<Vec<u8>, Memory>
-    ensures { (before after : FlightNumber → Days)
-        → old.now ≡ divided_flights before → new.now ≡ divided_flights after
-        → IfOk result (λ lines. lines.items ≡ summary_lines
-        (chosen_side choice.now before after before) (chosen_side choice.now before after after)) }
+/// [`chosen_differences`]: crate::chosen_differences
+pub fn summary_lines(alloc: Global, flights: &[FlightDifference]) -> Result<Vec<u8>, Memory>
+    ensures { (old new : FlightNumber → Days) → flights.now ≡ differences old new
+        → IfOk result (λ lines. lines.items ≡ summary_lines old new) }
 {
-    let flights = chosen_differences(alloc, choice, old, new)?;
-    let dates = date_count(alloc, &flights)?;
-    let lines = counted(alloc, &flights, dates)?;
+    let dates = date_count(alloc, flights)?;
+    let lines = counted(alloc, flights, dates)?;
     Ok(lines)
 }
 

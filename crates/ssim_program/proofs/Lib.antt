@@ -1,5 +1,4 @@
 pub mod Printers
-pub mod Differences
 pub mod Acting
 pub mod Again
 pub mod Exporting

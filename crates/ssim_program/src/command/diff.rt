@@ -1,13 +1,12 @@
-//! The command `diff`: on which of the chosen dates the timetables of two files differ, or how many
-//! changes of each kind there are.
+//! The command `diff`: on which of the chosen dates the timetables of two files differ, as lines or as
+//! CSV, or how many changes of each kind there are.
 
-ghost use Rattle.std.specs.Prelude.{◌≡◌, IfErr, IfOk, codes, map, not};
-ghost use Rattle.std.specs.Str.{bytes_eq};
+ghost use Rattle.std.specs.Prelude.{◌≡◌, IfErr, IfOk, length, map, nat_lt};
 ghost use Rattle.ssim_values.specs.Flight.{FlightNumber};
-ghost use Rattle.ssim_base.specs.Export.{line};
 ghost use Rattle.ssim_base.specs.Timetable.{Days};
 ghost use Rattle.ssim_schedule.specs.FlightPieces.{divided_flights};
 ghost use Rattle.ssim_difference.specs.ChosenDates.{chosen_side};
+ghost use Rattle.ssim_difference.specs.Differences as defined;
 ghost use Rattle.ssim_held.specs.Entries.{DeskSeen};
 ghost use Rattle.ssim_command_line.specs.Line.{choice_line};
 ghost use Rattle.ssim_program.specs.Timetables.{ReadsTimetable, RefusesTimetable};
@@ -23,7 +22,9 @@ use crate::store::Store;
 use crate::timetable_file::{carrier_of, open_timetable};
 use ssim_command_line::{ChoiceWords, DiffForm};
 use ssim_desk::Holdings;
-use ssim_difference::{difference_lines, summary_lines};
+use ssim_difference::{
+    FlightDifference, chosen_differences, difference_lines, difference_rows, summary_lines,
+};
 use ssim_outbox::compare;
 use ssim_parts::Choice;
 use ssim_records::Carrier;
@@ -138,35 +139,34 @@ fn reported(
         → IfOk result (λ report. report.found ≡ are_different
         (chosen_side choice.now before after before) (chosen_side choice.now before after after)) }
 {
-    let lines = printed(alloc, form, airline, choice, old, new)?;
-    let found = are_changes(&lines);
+    let flights = chosen_differences(alloc, choice, old, new)?;
+    let found = differ(&flights);
+    let lines = printed(alloc, form, airline, &flights)?;
     Ok(Report { lines, found })
 }
 
-/// Whether these lines are others than the line `same` alone.
-fn are_changes(lines: &[u8]) -> bool
-    ensures { result ≡ not (bytes_eq lines.now (line (codes "same"))) }
+/// Whether there are flights that differ.
+fn differ(flights: &[FlightDifference]) -> bool
+    ensures { result ≡ nat_lt 0 (length flights.now) }
 {
-    lines != b"same\n".as_slice()
+    flights.len() > 0
 }
 
-/// The chosen differences of two timetables as the options say.
+/// The flights that differ, as the options say.
 fn printed(
     alloc: Global,
     form: DiffForm,
     airline: Airline,
-    choice: &Choice,
-    old: &[FlightPieces],
-    new: &[FlightPieces],
+    flights: &[FlightDifference],
 ) -> Result<Vec<u8>, Memory>
-    ensures { (before after : FlightNumber → Days)
-        → old.now ≡ divided_flights before → new.now ≡ divided_flights after
-        → IfOk result (λ lines. lines.items ≡ printed_difference form airline
-        (chosen_side choice.now before after before) (chosen_side choice.now before after after)) }
+    ensures { (old new : FlightNumber → Days) → flights.now ≡ defined.differences old new
+        → IfOk result (λ lines. lines.items ≡ printed_difference form airline old new) }
 {
-    if form.summary {
-        summary_lines(alloc, choice, old, new)
+    if form.csv {
+        difference_rows(alloc, airline, flights)
+    } else if form.summary {
+        summary_lines(alloc, flights)
     } else {
-        difference_lines(alloc, airline, choice, old, new)
+        difference_lines(alloc, airline, flights)
     }
 }

@@ -1,6 +1,5 @@
 -- The lines of the flights that differ, and of the number of their dates.
-use Rattle.std.proofs.Common.{◌≡◌, ◌∙◌, ◌++◌, List, ℕ, ap, ap₂}
-use Rattle.ssim_difference.specs.ChosenDates.{chosen_side}
+use Rattle.std.proofs.Common.{◌∙◌, ◌++◌, List, ℕ, ap, ap₂}
 use Rattle.ssim_difference.specs.Differences.{Compared, date_count, differences}
 use Rattle.ssim_difference.specs.Kinds.{all_kinds}
 use Rattle.ssim_difference.specs.Lines.{last_line}
@@ -9,14 +8,8 @@ use Rattle.ssim_difference.proofs.KindCounts.{lines_are}
 use Rattle.ssim_difference.proofs.summary.summary_lines.Goals as goal
 
 pub returns : goal.returns
-returns c before after old_is new_is =
-    let choice = c.args.choice.now in
-    let old = chosen_side choice before after before in
-    let new = chosen_side choice before after after in
-    let flights : c.in_ok-flights.flights.items
-    ≡ differences old new = c.in_ok-flights.ensures before after old_is new_is in
+returns c old new is =
     c.in_ok-lines.ensures
-    ∙ ap₂ (λ (fs : List Compared) (n : ℕ). counted_lines fs n)
-    (c.deref-2.ensures.value ∙ flights) (c.in_ok-dates.ensures old new (c.deref.ensures.value ∙ flights))
+    ∙ ap₂ (λ (fs : List Compared) (n : ℕ). counted_lines fs n) is (c.in_ok-dates.ensures old new is)
     ∙ ap (λ (bs : List ℕ). bs ++ last_line (differences old new) (date_count old new))
     (lines_are old new all_kinds)
