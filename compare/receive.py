@@ -2,18 +2,21 @@
 
 Each desk is brought ten texts, valid and broken ones, repeated ones and some with a reference twice, in 50 orders. `receive` reads them
 from one to three mailbox files, in envelopes; what follows an empty line in a free text is a text of its own there. `take` tries the same
-texts one by one, each from a file of its own, and goes on after a refusal. Both have to say the same of each text, to keep the same desk
-file, byte for byte, and `receive` has to keep the refused texts. In an order in which nothing is refused but what each order refuses, the
+texts one by one, each from a file of its own, and goes on after a refusal. Both have to say the same of each text, `receive` as lines or, with
+`--csv`, as rows; to keep the same desk file, byte for byte; and `receive` has to keep the refused texts. Some orders also name a file that is not
+there. In an order in which nothing is refused but what each order refuses, the
 desk file has to be that of the other such orders.
 """
 import collections
 
 import messages
 import small
+from flight_dates import cells
 from room import said
 
 KINDS = ["desk"]
 ORDERS, TEXTS = 50, 10
+NAMES = "file,line,result,reference,number,name,place"
 ADDRESSES = [["ZCZC ABC123", "QU FDHOPZ7 HAMOPZ7"], ["QD FDHOPZ7"], []]
 
 
@@ -86,6 +89,15 @@ def moved(answer, begin):
     return " ".join(words)
 
 
+def as_row(file, line, answer):
+    """The row of a text that begins on this line of a file, by what is printed of it: a reference and a place have blanks."""
+    result, _, rest = answer.partition(" ")
+    if result != "refused":
+        return cells([file, line, result, rest, "", "", ""])
+    number, name, *place = rest.split(" ")
+    return cells([file, line, result, "", number, name, " ".join(place)])
+
+
 def taken(room, start, texts):
     """What `take` says of each text, one after another. The file `taken.desk` is the desk afterwards."""
     room.write("taken.desk", start)
@@ -107,22 +119,29 @@ def of_order(rng, room, start, texts):
     """What is compared of one order, and what `take` says of each text."""
     tried = [part for text in texts for _, part in parts_of(text)]
     answers = taken(room, start, tried)
-    expected, names, place = [], [], 0
+    expected, rows, names, place = [], [NAMES], [], 0
     for part in divided(rng, texts):
         names.append(f"mail{len(names) + 1}")
         data, begins = mailbox(rng, part)
         room.write(names[-1], data)
-        expected += [f"{names[-1]}:{begin} {moved(answer, begin)}" for begin, answer in zip(begins, answers[place:])]
+        of_file = [(str(begin), moved(answer, begin)) for begin, answer in zip(begins, answers[place:])]
+        expected += [f"{names[-1]}:{begin} {answer}" for begin, answer in of_file]
+        rows += [as_row(names[-1], begin, answer) for begin, answer in of_file]
         place += len(begins)
     words = collections.Counter(answer.split()[0] for answer in answers)
     room.counts += words
+    if rng.random() < 0.2:
+        names.append("nowhere")
+        expected.append("refused 91 File nowhere")
+        rows.append("nowhere,,refused,,91,File,")
+        words["refused"] += 1
     expected.append(f"taken {words['taken']} repeated {words['repeated']} refused {words['refused']}")
     room.write("received.desk", start)
     room.write("back", b"")
-    status = rng.choice([[], ["--status"]])
-    answer = room("receive", *status, "--refused", "back", "received.desk", "received.desk", *names)
+    status, form = rng.choice([[], ["--status"]]), rng.choice([[], ["--csv"]])
+    answer = room("receive", *status, *form, "--refused", "back", "received.desk", "received.desk", *names)
     back = b"".join(b"\n".join(lines_of(text) + [b"NNNN", b""]) for text, said in zip(tried, answers) if said.startswith("refused"))
-    wanted = said(expected)._replace(status=3 if status and words["refused"] else 0)
+    wanted = said(rows if form else expected)._replace(status=3 if status and words["refused"] else 0)
     return [("receive", answer, wanted),
             ("desk file", room.read("received.desk"), room.read("taken.desk")), ("refused texts", room.read("back"), back)], answers
 

@@ -24,7 +24,9 @@ LIMIT = 268_435_456
 WRITE_FAULT = b"refused 52 WriteFault\n"
 NOBODY = 65534
 KILLED = -1
-UNREAD = b"refused 91 File mail\nrefused 91 File missing\ntaken 0 repeated 0 refused 2\n"
+# What the commands that receive print if neither file can be read.
+UNREAD = {"receive": b"refused 91 File mail\nrefused 91 File missing\ntaken 0 repeated 0 refused 2\n",
+          "receive --csv": b"file,line,result,reference,number,name,place\nmail,,refused,,91,File,\nmissing,,refused,,91,File,\n"}
 
 
 def file_fault(name):
@@ -279,7 +281,7 @@ class Devices:
         whole = self.whole[name]
         files = {other: data for other, data in answer.files.items() if not (left_beside and other.endswith(".0.part"))}
         if answer.status == 0:
-            if name == "receive" and answer.out == UNREAD:
+            if answer.out == UNREAD.get(name):
                 return None if files == {**self.start, "back": b"", "new": self.start["desk"]} else "other files of unread mail"
             return None if (answer.out, answer.err, files) == (whole.out, b"", whole.files) else "other bytes or files"
         if answer.status != 1:
@@ -295,7 +297,7 @@ class Devices:
             return "another line"
         if files != self.start and not (answer.err == file_fault(kept) and self.is_half_kept(name, files)):
             return "a file changed"
-        return "something was printed" if answer.out and name not in ("take", "receive", "withdraw", "publish") else None
+        return "something was printed" if answer.out and name not in ("take", *UNREAD, "withdraw", "publish") else None
 
     def failing_calls(self, error, onward):
         for name, words, kept in COMMANDS:
@@ -336,7 +338,7 @@ class Devices:
 
     def is_half_kept(self, name, files):
         """Whether only the refused texts are kept."""
-        return name == "receive" and files == {**self.start, "back": self.whole[name].files["back"]}
+        return name in UNREAD and files == {**self.start, "back": self.whole[name].files["back"]}
 
     def all(self):
         self.full_devices()

@@ -26,6 +26,59 @@ def lines_of(data):
     return data.splitlines(keepends=True)
 
 
+class TextLines:
+    """What `receive` prints of each text as a line, and then how many were taken, repeated and refused."""
+
+    @staticmethod
+    def of(out):
+        """The lines of texts and files."""
+        return lines_of(out)[:-1]
+
+    @staticmethod
+    def result(line):
+        return line.split()[1]
+
+    @staticmethod
+    def without_memory(line):
+        """The line of a text that is refused with 90."""
+        return line.split()[0] + b" " + MEMORY
+
+    @staticmethod
+    def whole(lines, results):
+        """All that is printed with these lines."""
+        counts = tuple(results.count(word) for word in (b"taken", b"repeated", b"refused"))
+        return b"".join([*lines, b"taken %d repeated %d refused %d\n" % counts])
+
+
+class TextRows:
+    """What `receive --csv` prints: the names of the fields, and of each text a row."""
+
+    NAMES = b"file,line,result,reference,number,name,place\n"
+
+    @staticmethod
+    def of(out):
+        """The rows of texts and files."""
+        return lines_of(out)[1:]
+
+    @staticmethod
+    def result(row):
+        return row.split(b",")[2]
+
+    @staticmethod
+    def without_memory(row):
+        """The row of a text that is refused with 90."""
+        return b",".join([*row.split(b",")[:2], b"refused,,90,Memory,\n"])
+
+    @classmethod
+    def whole(cls, rows, _):
+        """All that is printed with these rows."""
+        return b"".join([cls.NAMES, *rows])
+
+
+# How each of the commands that receive prints what became of a text.
+RECEIVED = {"receive": TextLines, "receive --csv": TextRows}
+
+
 class Sweep:
     """The runs of a command in a folder."""
 
@@ -45,7 +98,7 @@ class Sweep:
             return f"status {answer.status}"
         if answer.err != MEMORY:
             return "another line"
-        kept_first = {**self.runs.start, "back": answer.files.get("back")} if self.name == "receive" else self.runs.start
+        kept_first = {**self.runs.start, "back": answer.files.get("back")} if self.name in RECEIVED else self.runs.start
         if self.name == "split" and answer.out:
             # The file of a section is kept before its line is printed.
             kept_first = self.whole.files
@@ -57,15 +110,15 @@ class Sweep:
         """Whether the command may print this before it is refused."""
         if self.name in ("withdraw", "publish"):
             return out in (b"", self.whole.out)
-        return out == b"" or self.name in ("take", "split") and self.is_front(out) or self.name == "receive"
+        return out == b"" or self.name in ("take", "split") and self.is_front(out) or self.name in RECEIVED
 
     def wrong_if_done(self, answer):
         if answer.status != 0:
             return f"status {answer.status}"
         if answer.err:
             return "a line of a refusal"
-        if self.name == "receive":
-            return self.wrong_if_received(answer)
+        if self.name in RECEIVED:
+            return self.wrong_if_received(answer, RECEIVED[self.name])
         if answer.files != self.whole.files:
             return "other files"
         if answer.out != self.whole.out and not (self.name == "rehearse" and self.is_rehearsal(answer.out)):
@@ -100,14 +153,13 @@ class Sweep:
             lines[-1] = b"same\n" if len(desks) == int(first.split()[1]) else b"different\n"
         return b"".join(lines)
 
-    def wrong_if_received(self, answer):
+    def wrong_if_received(self, answer, form):
         """What is wrong with the lines and the files of mail of which the texts whose lines say 90 were refused, or nothing."""
-        whole = lines_of(self.whole.out)
-        refused = tuple(place for place, line in enumerate(lines_of(answer.out)) if line.endswith(b" " + MEMORY))
-        ends = [line.split()[1] if place < len(MAIL) and place not in refused else b"refused" for place, line in enumerate(whole[:-1])]
-        lines = [line.split()[0] + b" " + MEMORY if place in refused else line for place, line in enumerate(whole[:-1])]
-        lines.append(b"taken %d repeated %d refused %d\n" % tuple(ends.count(word) for word in (b"taken", b"repeated", b"refused")))
-        if answer.out != b"".join(lines):
+        whole = form.of(self.whole.out)
+        refused = tuple(place for place, (line, old) in enumerate(zip(form.of(answer.out), whole)) if line == form.without_memory(old))
+        ends = [form.result(line) if place < len(MAIL) and place not in refused else b"refused" for place, line in enumerate(whole)]
+        lines = [form.without_memory(line) if place in refused else line for place, line in enumerate(whole)]
+        if answer.out != form.whole(lines, ends):
             return "other bytes"
         if refused not in self.desks:
             self.desks[refused] = self.desk_of([text for text, end in zip(MAIL, ends) if end != b"refused"])
@@ -147,8 +199,8 @@ class Sweep:
             if answer.refused == 0:
                 if self.name == "rehearse" and not onward and not self.has_refused_export():
                     faults.append("growths: rehearse: no line of a desk has 90")
-                if self.name == "receive" and not onward and not self.has_refused_text():
-                    faults.append("growths: receive: no line of a text has 90")
+                if self.name in RECEIVED and not onward and not self.has_refused_text():
+                    faults.append(f"growths: {self.name}: no line of a text has 90")
                 return runs, faults
 
 

@@ -45,6 +45,7 @@ COMMANDS = [
     ("start", ["start", "season", "stations", "old"], "old"),
     ("take", ["take", "desk", "desk", "earlier", "first", "later"], "desk"),
     ("receive", ["receive", "--refused", "back", "desk", "new", "mail", "missing"], "new"),
+    ("receive --csv", ["receive", "--csv", "--refused", "back", "desk", "new", "mail", "missing"], "new"),
     ("merge", ["merge", "desk", "theirs", "new"], "new"),
     ("merge --since", ["merge", "--since", "base", "desk", "theirs", "new"], "new"),
     ("carry", ["carry", "desk", "theirs", "new"], "new"),

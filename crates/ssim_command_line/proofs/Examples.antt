@@ -24,9 +24,18 @@ by_date = record { right = refl; name = codes "list"; rows = _; entered = refl; 
 
 -- `receive --refused back fdh.desk fdh.desk mail`
 with_refused : Names (codes "ssimdesk" ∷ codes "receive" ∷ codes "--refused" ∷ codes "back" ∷ codes "fdh.desk" ∷ codes "fdh.desk" ∷ codes "mail" ∷ [])
-    (Receive (Some (codes "back")) false (codes "fdh.desk") (codes "fdh.desk") (codes "mail" ∷ []))
+    (Receive (Some (codes "back")) (record { csv = false; status = false }) (codes "fdh.desk") (codes "fdh.desk")
+    (codes "mail" ∷ []))
 unfolding clap_on_literals
 with_refused = record { right = refl; name = codes "receive"; rows = _; entered = refl; read = refl }
+
+-- `receive --csv fdh.desk fdh.desk mail --status`: rows, and a status
+rows_of_mail : Names (codes "ssimdesk" ∷ codes "receive" ∷ codes "--csv" ∷ codes "fdh.desk" ∷ codes "fdh.desk"
+    ∷ codes "mail" ∷ codes "--status" ∷ [])
+    (Receive None (record { csv = true; status = true }) (codes "fdh.desk") (codes "fdh.desk")
+    (codes "mail" ∷ []))
+unfolding clap_on_literals
+rows_of_mail = record { right = refl; name = codes "receive"; rows = _; entered = refl; read = refl }
 
 -- `select --station KEF fdh.desk --station HAM`: an option twice
 two_stations : Names (codes "ssimdesk" ∷ codes "select" ∷ codes "--station" ∷ codes "KEF"

@@ -14,7 +14,7 @@ use Rattle.ssim_command_line.specs.Line.{three_values, two, two_and_texts}
 use Rattle.ssim_command_line.specs.Line.{board_form_of, board_words, formed_three}
 use Rattle.ssim_command_line.specs.Line.{choice_of, choice_words, diff_form_of, diff_words}
 use Rattle.ssim_command_line.specs.Line.{findings_form_of, flag, form_of}
-use Rattle.ssim_command_line.specs.Line.{is_given, optional, problems_form_of}
+use Rattle.ssim_command_line.specs.Line.{is_given, optional, problems_form_of, receive_form_of, receive_words}
 use Rattle.ssim_command_line.specs.Line.{several_texts, span_of, span_words}
 use Rattle.ssim_command_line.specs.Line.{formed_two_and_any, two_values, values_in}
 use Rattle.ssim_command_line.specs.Line.{Board, Calendar, Check, Diff, Explain, Export, Findings, History, Listing}
@@ -259,10 +259,8 @@ explain_row = by (codes "explain") (one_value ++ flag (codes "status") ∷ [])
     (λ rows. one (Explain (is_given (codes "status") rows)))
 
 abbrev pub receive_row : Command
-receive_row = by (codes "receive")
-    (two_values ++ several_texts ∷ optional (codes "refused") ∷ flag (codes "status") ∷ [])
-    (λ rows. two_and_texts
-    (Receive (first_of (codes "refused") rows) (is_given (codes "status") rows)))
+receive_row = by (codes "receive") (two_values ++ several_texts ∷ receive_words)
+    (λ rows. two_and_texts (Receive (first_of (codes "refused") rows) (receive_form_of rows)))
 
 abbrev pub merge_row : Command
 merge_row = by (codes "merge") (three_values ++ optional (codes "since") ∷ [])
@@ -332,7 +330,7 @@ explain_read = one_reader explain_row.name explain_row.words
 pub receive_read : IsReader receive_row
 unfolding clap_on_literals
 receive_read = several_reader receive_row.name receive_row.words
-    (λ rows. Receive (first_of (codes "refused") rows) (is_given (codes "status") rows))
+    (λ rows. Receive (first_of (codes "refused") rows) (receive_form_of rows))
     (λ a b. record { enter = λ t rest. refl; first = λ t u. refl; later = λ x seen t u. refl })
 
 pub merge_read : IsReader merge_row

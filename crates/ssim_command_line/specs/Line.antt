@@ -17,6 +17,7 @@ use Rattle.ssim_command_line.specs.declared.command_line.ListForm.{ListForm}
 use Rattle.ssim_command_line.specs.declared.command_line.ProblemsForm.{ProblemsForm}
 use Rattle.ssim_command_line.specs.declared.command_line.ModeWord.{ModeWord}
 use Rattle.ssim_command_line.specs.declared.command_line.ModeWord.TheVariants.{Utc, Local}
+use Rattle.ssim_command_line.specs.declared.command_line.ReceiveForm.{ReceiveForm}
 use Rattle.ssim_command_line.specs.declared.command_line.Request.{Request}
 use Rattle.ssim_command_line.specs.declared.command_line.SpanWords.{SpanWords}
 use Rattle.ssim_command_line.specs.declared.command_line.Request.TheVariants as request
@@ -45,7 +46,7 @@ pub data Line : Type 0 where
   Tidy : (dataset : Text) → Line
   Start : (dataset stations out : Text) → Line
   Take : (desk out : Text) (texts : List Text) → Line
-  Receive : (refused : Option Text) (status : Bool) (desk out : Text) (texts : List Text) → Line
+  Receive : (refused : Option Text) (form : ReceiveForm) (desk out : Text) (texts : List Text) → Line
   Merge : (since : Option Text) (desk other out : Text) → Line
   Carry : (desk other out : Text) → Line
   Texts : (csv : Bool) (span : SpanTexts) (desk : Text) (flights : List Text) → Line
@@ -91,8 +92,8 @@ line_of (request.Problems form dataset) = Problems form dataset.now
 line_of (request.Tidy dataset) = Tidy dataset.now
 line_of (request.Start dataset stations out) = Start dataset.now stations.now out.now
 line_of (request.Take desk out texts) = Take desk.now out.now (map (λ t. t.now) texts.items)
-line_of (request.Receive refused status desk out texts) =
-    Receive (option_map (λ r. r.now) refused) status desk.now out.now (map (λ t. t.now) texts.items)
+line_of (request.Receive refused form desk out texts) =
+    Receive (option_map (λ r. r.now) refused) form desk.now out.now (map (λ t. t.now) texts.items)
 line_of (request.Merge since desk other out) =
     Merge (option_map (λ s. s.now) since) desk.now other.now out.now
 line_of (request.Carry desk other out) = Carry desk.now other.now out.now
@@ -200,6 +201,11 @@ abbrev pub problems_form_of : List Row → ProblemsForm
 problems_form_of rows =
     record { csv = is_given (codes "csv") rows; status = is_given (codes "status") rows }
 
+-- which of the options of `receive` are given
+abbrev pub receive_form_of : List Row → ReceiveForm
+receive_form_of rows =
+    record { csv = is_given (codes "csv") rows; status = is_given (codes "status") rows }
+
 -- which of the options of `findings` are given
 abbrev pub findings_form_of : List Row → FindingsForm
 findings_form_of rows =
@@ -277,6 +283,10 @@ choice_words =
 abbrev pub board_words : List Rule
 board_words =
     flag (codes "csv") ∷ optional (codes "days") ∷ flag (codes "departures") ∷ flag (codes "arrivals") ∷ []
+
+-- the options of `receive`
+abbrev pub receive_words : List Rule
+receive_words = optional (codes "refused") ∷ flag (codes "csv") ∷ flag (codes "status") ∷ []
 
 -- the options of `diff`
 abbrev pub diff_words : List Rule
@@ -360,9 +370,9 @@ commands =
     ∷ command (codes "take") (two_values ++ several_texts ∷ []) (two_and_texts Take)
     ∷ record {
       name = codes "receive";
-      words = two_values ++ several_texts ∷ optional (codes "refused") ∷ flag (codes "status") ∷ [];
+      words = two_values ++ several_texts ∷ receive_words;
       make = λ rows. two_and_texts
-          (Receive (first_of (codes "refused") rows) (is_given (codes "status") rows));
+          (Receive (first_of (codes "refused") rows) (receive_form_of rows));
     }
     ∷ record {
       name = codes "merge";

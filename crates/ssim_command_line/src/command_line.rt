@@ -5,7 +5,7 @@ ghost use Rattle.clap.specs.Words.{all_of, app_of, found_of, first_of, rows_of};
 ghost use Rattle.ssim_command_line.specs.Line.{Line, Spells, form_of, is_given, line_from, values_in};
 ghost use Rattle.ssim_command_line.specs.Line.{choice_line, choice_of, diff_form_of, diff_form_with};
 ghost use Rattle.ssim_command_line.specs.Line.{findings_form_of, line_of};
-ghost use Rattle.ssim_command_line.specs.Line.{mode_of, problems_form_of};
+ghost use Rattle.ssim_command_line.specs.Line.{mode_of, problems_form_of, receive_form_of};
 ghost use Rattle.ssim_command_line.specs.Line.{span_line, span_of};
 ghost use Rattle.ssim_command_line.specs.Usage.{Names, line_at};
 ghost use Rattle.ssim_command_line.specs.clauses.Usage.{IsFaultOf};
@@ -44,6 +44,15 @@ pub struct ProblemsForm {
     /// As CSV.
     pub csv: bool,
     /// With a status that says whether there are any.
+    pub status: bool,
+}
+
+/// How `receive` prints what became of the texts.
+#[derive(Clone, Copy, Debug, PartialEq, Eq)]
+pub struct ReceiveForm {
+    /// As CSV.
+    pub csv: bool,
+    /// With a status that says whether a text was refused, or a file was not read.
     pub status: bool,
 }
 
@@ -120,7 +129,7 @@ pub enum Request<'a> {
     /// is named, and write the desk file.
     Receive {
         refused: Option<&'a str>,
-        status: bool,
+        form: ReceiveForm,
         desk: &'a str,
         out: &'a str,
         texts: Vec<&'a str>,
@@ -519,6 +528,16 @@ fn problems_form_of(inner: &ArgMatches<'_>) -> ProblemsForm
     ensures { result ≡ problems_form_of (rows_of (found_of inner.now)) }
 {
     ProblemsForm {
+        csv: is_given(inner, "csv"),
+        status: is_given(inner, "status"),
+    }
+}
+
+/// Which of the options of `receive` are given.
+fn receive_form_of(inner: &ArgMatches<'_>) -> ReceiveForm
+    ensures { result ≡ receive_form_of (rows_of (found_of inner.now)) }
+{
+    ReceiveForm {
         csv: is_given(inner, "csv"),
         status: is_given(inner, "status"),
     }

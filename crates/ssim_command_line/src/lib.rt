@@ -16,6 +16,6 @@ mod word_help;
 
 pub use board_form::{BoardForm, Direction};
 pub use command_line::{
-    ChoiceWords, DiffForm, FindingsForm, LineFault, ListForm, ModeWord, ProblemsForm, Request,
-    SpanWords, parse,
+    ChoiceWords, DiffForm, FindingsForm, LineFault, ListForm, ModeWord, ProblemsForm, ReceiveForm,
+    Request, SpanWords, parse,
 };

@@ -133,8 +133,8 @@ Exit status: 0; 1 if the desk file or a text is refused, a file cannot be read
 or written, another command holds OUT (92), or OUT is a file of another kind
 (93)."
         "receive" [First("DESK"), Second("OUT"), Several("TEXT"), Valued("refused", "FILE"),
-            Flag("status")]
-            => Receive(desk, out; texts+; refused: refused_of; status: status_of)
+            Flag("csv"), Flag("status")]
+            => Receive(desk, out; texts+; refused: refused_of; form: receive_form_of)
         "Take all valid texts of mailbox files at a desk"
         "\
 OUT may be the file DESK. A TEXT may have any number of texts, with their
@@ -146,6 +146,7 @@ or its refusal, and the number of each:
   mail.txt:2 taken SSM 16MAR27 00003 001 MUCOPZ7
   mail.txt:11 refused 24 BadPeriod line 17
   taken 1 repeated 0 refused 1
+With --csv it prints a row for each text instead.
 Exit status: 0, also if texts were refused, but then 3 with --status; 1 if the
 desk file is refused or cannot be read, a file cannot be written, another
 command holds it (92), OUT is a file of another kind, or the file for refused

@@ -7,6 +7,7 @@ use Rattle.ssim_held.specs.Entries.{DeskSeen}
 use Rattle.ssim_command_line.specs.Line.{Line, Text}
 use Rattle.ssim_command_line.specs.Line as line
 use Rattle.ssim_command_line.specs.Usage.{Names}
+use Rattle.ssim_command_line.specs.declared.command_line.ReceiveForm.{ReceiveForm}
 use Rattle.ssim_program.specs.Acts.{Act, Acts, Print, Keep, Find, Stop, found_then, is_whole, kept_by}
 use Rattle.ssim_program.specs.Answers.{answers, take_each}
 use Rattle.ssim_program.specs.Files.{Files, Kept, with_kept}
@@ -14,7 +15,7 @@ use Rattle.ssim_program.specs.Calls.{CommandsAreEvents, Continues, GoesOn, IsCal
 use Rattle.ssim_program.specs.Offices.{Event, Happened, History, Leaves, Then, files_of}
 use Rattle.ssim_program.specs.Offices.{StartKept, TakeKept, ReceiveKept, MergeKept, MergeSinceKept, CarryKept}
 use Rattle.ssim_program.specs.Offices.{WithdrawKept, Unchanged, Came, AllCame}
-use Rattle.ssim_program.specs.Receiving.{Receipt, any_refused, receipt_lines, received_files}
+use Rattle.ssim_program.specs.Receiving.{Receipt, any_refused, printed_receipts, received_files}
 use Rattle.ssim_program.specs.Receiving.{refused_texts}
 use Rattle.ssim_program.specs.Runs.{Runs}
 use Rattle.ssim_program.specs.World.{World}
@@ -139,24 +140,28 @@ taken files out (name ∷ names) desk acts (made, one, (later, inr (why, not_so,
 module _ (old new : Files) (acts done later : List Act) (split : acts ≡ done ++ later)
     (left : Some new ≡ with_kept (kept_by done) (Some old)) where
   -- what `receive` keeps, whatever its status says
-  kept_of : (refused : Option Text) (found : Bool) (out : Text) (receipts : List Receipt) (after : DeskSeen)
+  kept_of : (refused : Option Text) (csv found : Bool) (out : Text) (receipts : List Receipt)
+      (after : DeskSeen)
       → acts ≡ found_then found
-      (Print (receipt_lines receipts) ∷ received_files refused out receipts after)
+      (Print (printed_receipts csv receipts) ∷ received_files refused out receipts after)
       → kept_by acts ≡ kept_by (received_files refused out receipts after)
-  kept_of refused found out receipts after are = ap kept_by are
-      ∙ kept_too found (Print (receipt_lines receipts) ∷ received_files refused out receipts after)
+  kept_of refused csv found out receipts after are = ap kept_by are
+      ∙ kept_too found
+      (Print (printed_receipts csv receipts) ∷ received_files refused out receipts after)
 
-  received : (refused : Option Text) (status : Bool) (desk out : Text) (names : List Text)
-      → answers (line.Receive refused status desk out names) (Some old) (Ok acts)
-      → Leads (line.Receive refused status desk out names) old new
-  received None status desk out names (_, places, (result, got, are)) =
-      let kept = kept_of None (status && any_refused result.0) out result.0 result.1 are in
-      keeps_one (line.Receive None status desk out names) old new acts done later split left _
+  received : (refused : Option Text) (form : ReceiveForm) (desk out : Text) (names : List Text)
+      → answers (line.Receive refused form desk out names) (Some old) (Ok acts)
+      → Leads (line.Receive refused form desk out names) old new
+  received None form desk out names (_, places, (result, got, are)) =
+      let found = form.status && any_refused result.0 in
+      let kept = kept_of None form.csv found out result.0 result.1 are in
+      keeps_one (line.Receive None form desk out names) old new acts done later split left _
       (ReceiveKept None desk out names result.0) kept (inl (result.0, refl))
       (λ is. (result.1, got, is ∙ ap (λ (k : Kept). with_kept k (Some old)) kept))
-  received (Some name) status desk out names (_, places, (result, got, are)) =
-      let kept = kept_of (Some name) (status && any_refused result.0) out result.0 result.1 are in
-      keeps_two (line.Receive (Some name) status desk out names) old new acts done later split left
+  received (Some name) form desk out names (_, places, (result, got, are)) =
+      let found = form.status && any_refused result.0 in
+      let kept = kept_of (Some name) form.csv found out result.0 result.1 are in
+      keeps_two (line.Receive (Some name) form desk out names) old new acts done later split left
       (name, refused_texts result.0) _ (ReceiveKept (Some name) desk out names result.0)
       kept (inl (result.0, refl))
       (inr (name, refused_texts result.0, refl, refl))
@@ -189,8 +194,8 @@ module _ (old new : Files) (acts done later : List Act) (split : acts ≡ done +
       (ap kept_by are) refl
       (λ is. (acts, (tt, may, (base, read, (records, are))), ap is_whole are, is))
   of_line (line.Take desk out texts) made = took desk out texts made
-  of_line (line.Receive refused status desk out names) made =
-      received refused status desk out names made
+  of_line (line.Receive refused form desk out names) made =
+      received refused form desk out names made
   of_line (line.Merge (Some since) mine theirs out)
       (_, may, (first, older, (one, read, (other, reads, (_, over, (after, merges, (rising, are))))))) =
       keeps_one _ old new acts done later split left _ (MergeSinceKept since mine theirs out)

@@ -1,16 +1,21 @@
 -- Texts and files that are received one after another: what is left goes on from what was received.
-use Rattle.std.proofs.Common.{◌≡◌, ◌≤◌, ◌<◌, ◌^◌, ◌+◌, ◌∙◌, ℕ, Bool, cond, List, [], ◌∷◌, ◌++◌, Option, Result, Ok, Err, OnOk, length, refl, sym, ap, subst, append_assoc, append-nil, length-append, arith}
+use Rattle.std.proofs.Common.{◌≡◌, ◌≤◌, ◌<◌, ◌^◌, ◌+◌, ◌∙◌, ℕ, Bool, cond, List, [], ◌∷◌, ◌++◌, if◌then◌else◌, true, false, map, Option, Result, Ok, Err, OnOk, length, refl, sym, ap, ap₂, subst, append_assoc, append-nil, length-append, arith}
 use Rattle.std.specs.List.{count_by, flat_map}
 use Rattle.std.proofs.lemmas.Grind.{flat_map-append}
 use Rattle.std.proofs.lemmas.List.Sums.{count_by-le-length, sum_by-append}
+use Rattle.csv.specs.Records.{trimmed}
+use Rattle.csv.specs.Writing.{default_writer, is_blank, row_body}
 use Rattle.ssim_base.specs.Export.{line}
+use Rattle.ssim_listing.specs.Rows.{row}
 use Rattle.ssim_mailbox.specs.Texts.{MailText}
 use Rattle.ssim_held.specs.Entries.{DeskSeen}
 use Rattle.ssim_command_line.specs.Line.{Text}
 use Rattle.ssim_program.specs.Files.{Files}
 use Rattle.ssim_program.specs.Receiving.{Receipt, ReceivesEach, ReceivesFile, Tries, TriesEach}
-use Rattle.ssim_program.specs.Receiving.{is_refused, is_repeated, is_taken, receipt_text, refused_text}
-use Rattle.ssim_program.specs.internal.Receive.{Adds, AddsOne, AreReceipts}
+use Rattle.ssim_program.specs.Receiving.{is_refused, is_repeated, is_taken, printed_receipts}
+use Rattle.ssim_program.specs.Receiving.{receipt_fields, receipt_rows, receipt_text, refused_text}
+use Rattle.ssim_program.specs.internal.Receive.{Adds, AddsOne, AreReceipts, printed_after, printed_before}
+use Rattle.ssim_program.specs.internal.Receive.{printed_receipt}
 use Rattle.ssim_program.specs.declared.command.receive.receipt.Receipts.{Receipts}
 
 -- what a desk receives, from one state to another
@@ -20,18 +25,22 @@ Receiving = DeskSeen → List Receipt → DeskSeen → Type 0
 -- some receipts were added, and what is left makes the whole of what was received so far
 abbrev pub Through : Receiving → Receiving → DeskSeen → DeskSeen → Receipts → Receipts → Type 0
 Through whole rest before now old new =
-    (some : List Receipt) × ((earlier : List Receipt) → AreReceipts old earlier → AreReceipts new (earlier ++ some))
+    (some : List Receipt)
+    × ((csv : Bool) (earlier : List Receipt) → AreReceipts csv old earlier → AreReceipts csv new (earlier ++ some))
     × ((later : List Receipt) (after : DeskSeen) → rest now later after → whole before (some ++ later) after)
 
 pub begun : (whole : Receiving) (desk : DeskSeen) (old : Receipts) → Through whole whole desk desk old old
-begun whole desk old = ([], λ earlier h. subst (AreReceipts old) (sym (append-nil earlier)) h, λ later after h. h)
+begun whole desk old =
+    ([], λ csv earlier h. subst (AreReceipts csv old) (sym (append-nil earlier)) h, λ later after h. h)
 
 -- some more is received
-pub goes_on : (whole rest rest' : Receiving) (before now now' : DeskSeen) (old new new' : Receipts) (first : List Receipt) → ((earlier : List Receipt) → AreReceipts new earlier → AreReceipts new' (earlier ++ first))
+pub goes_on : (whole rest rest' : Receiving) (before now now' : DeskSeen) (old new new' : Receipts) (first : List Receipt)
+    → ((csv : Bool) (earlier : List Receipt) → AreReceipts csv new earlier → AreReceipts csv new' (earlier ++ first))
     → ((later : List Receipt) (after : DeskSeen) → rest' now' later after → rest now (first ++ later) after) → Through whole rest before now old new → Through whole rest' before now' old new'
 goes_on whole rest rest' before now now' old new new' first more next (some, are, through) = (
   some ++ first,
-  λ earlier h. subst (AreReceipts new') (append_assoc earlier some first) (more (earlier ++ some) (are earlier h)),
+  λ csv earlier h.
+      subst (AreReceipts csv new') (append_assoc earlier some first) (more csv (earlier ++ some) (are csv earlier h)),
   λ later after h. subst (λ (rs : List Receipt). whole before rs after) (sym (append_assoc some first later)) (through (first ++ later) after (next later after h)),
 )
 
@@ -47,17 +56,38 @@ then_too (Err e) more h = tt
 
 -- ---- one more receipt
 
--- there are no more receipts than bytes of their lines
-few : (receipts : List Receipt) → length receipts ≤ length (flat_map (λ r. line (receipt_text r)) receipts)
-few [] = omega arith
-few (receipt ∷ receipts) =
-    let less = few receipts in
-    let one = length-append (receipt_text receipt) (10 ∷ []) in
-    let all = length-append (line (receipt_text receipt)) (flat_map (λ r. line (receipt_text r)) receipts) in
+-- a row has a byte, its end
+row_has_end : (fields : List (List ℕ)) → 1 ≤ length (row fields)
+row_has_end fields =
+    let some = map trimmed fields in
+    let marks : List ℕ = if is_blank default_writer some then 34 ∷ 34 ∷ [] else [] in
+    let all = length-append (row_body default_writer some) (marks ++ 10 ∷ []) in
+    let last = length-append marks (10 ∷ []) in
+    omega (arith, all, last)
+
+-- the row or the line of a receipt has a byte
+has_byte : (csv : Bool) (receipt : Receipt) → 1 ≤ length (printed_receipt csv receipt)
+has_byte true receipt = row_has_end (receipt_fields receipt)
+has_byte false receipt = let one = length-append (receipt_text receipt) (10 ∷ []) in omega (arith, one)
+
+-- there are no more receipts than bytes of their rows or lines
+few : (csv : Bool) (receipts : List Receipt) → length receipts ≤ length (flat_map (printed_receipt csv) receipts)
+few csv [] = omega arith
+few csv (receipt ∷ receipts) =
+    let less = few csv receipts in
+    let one = has_byte csv receipt in
+    let all = length-append (printed_receipt csv receipt) (flat_map (printed_receipt csv) receipts) in
     omega (arith, less, one, all)
 
 one_more : {A : Type 0} (f : Receipt → List A) (xs more : List A) (before : List Receipt) (receipt : Receipt) → more ≡ xs ++ f receipt → xs ≡ flat_map f before → more ≡ flat_map f (before ++ receipt ∷ [])
 one_more f xs more before receipt is h = is ∙ ap (λ ys. ys ++ f receipt) h ∙ ap (λ ys. flat_map f before ++ ys) (sym (append-nil (f receipt))) ∙ sym (flat_map-append f before (receipt ∷ []))
+
+-- one more after a beginning
+one_after : {A : Type 0} (f : Receipt → List A) (begin xs more : List A) (before : List Receipt) (receipt : Receipt)
+    → more ≡ xs ++ f receipt → xs ≡ begin ++ flat_map f before → more ≡ begin ++ flat_map f (before ++ receipt ∷ [])
+one_after f begin xs more before receipt is h =
+    is ∙ ap (λ ys. ys ++ f receipt) h ∙ append_assoc begin (flat_map f before) (f receipt)
+    ∙ ap (λ ys. begin ++ ys) (one_more f (flat_map f before) _ before receipt refl refl)
 
 one_counted : (p : Receipt → Bool) (n m long : ℕ) (before : List Receipt) (receipt : Receipt) → length before < long → long < 2 ^ 64 → (n + 1 < 2 ^ 64 → m ≡ n + cond (p receipt) 1 0) → n ≡ count_by p before → m ≡ count_by p (before ++ receipt ∷ [])
 one_counted p n m long before receipt less fits is h =
@@ -67,26 +97,58 @@ one_counted p n m long before receipt less fits is h =
     omega (arith, more, now, h)
 
 -- what is printed and kept of one more receipt
-pub with_one : (old new : Receipts) (before : List Receipt) (receipt : Receipt) → length new.lines.items < 2 ^ 64
-    → new.lines.items ≡ old.lines.items ++ line (receipt_text receipt) → new.texts.items ≡ old.texts.items ++ refused_text receipt
+pub with_one : (csv : Bool) (old new : Receipts) (before : List Receipt) (receipt : Receipt)
+    → length new.lines.items < 2 ^ 64 → new.csv ≡ old.csv
+    → new.lines.items ≡ old.lines.items ++ printed_receipt old.csv receipt → new.texts.items ≡ old.texts.items ++ refused_text receipt
     → (old.counts.taken + 1 < 2 ^ 64 → new.counts.taken ≡ old.counts.taken + cond (is_taken receipt) 1 0)
     → (old.counts.repeated + 1 < 2 ^ 64 → new.counts.repeated ≡ old.counts.repeated + cond (is_repeated receipt) 1 0)
     → (old.counts.refused + 1 < 2 ^ 64 → new.counts.refused ≡ old.counts.refused + cond (is_refused receipt) 1 0)
-    → AreReceipts old before → AreReceipts new (before ++ receipt ∷ [])
-with_one old new before receipt fits lines texts taken repeated refused h =
+    → AreReceipts csv old before → AreReceipts csv new (before ++ receipt ∷ [])
+with_one csv old new before receipt fits form lines texts taken repeated refused h =
+    let added : new.lines.items ≡ old.lines.items ++ printed_receipt csv receipt =
+    lines ∙ ap (λ (b : Bool). old.lines.items ++ printed_receipt b receipt) h.form in
     let less : length before < length new.lines.items =
-    let few = few before in
-    let was = ap length h.lines in
-    let now = ap length lines ∙ length-append old.lines.items (line (receipt_text receipt)) in
-    let one = length-append (receipt_text receipt) (10 ∷ []) in
+    let few = few csv before in
+    let was = ap length h.lines ∙ length-append (printed_before csv) (flat_map (printed_receipt csv) before) in
+    let now = ap length added ∙ length-append old.lines.items (printed_receipt csv receipt) in
+    let one = has_byte csv receipt in
     omega (arith, few, was, now, one) in
     record {
-      lines = one_more (λ r. line (receipt_text r)) old.lines.items new.lines.items before receipt lines h.lines;
+      form = form ∙ h.form;
+      lines = one_after (printed_receipt csv) (printed_before csv) old.lines.items new.lines.items before receipt added h.lines;
       texts = one_more refused_text old.texts.items new.texts.items before receipt texts h.texts;
       taken = one_counted is_taken old.counts.taken new.counts.taken (length new.lines.items) before receipt less fits taken h.taken;
       repeated = one_counted is_repeated old.counts.repeated new.counts.repeated (length new.lines.items) before receipt less fits repeated h.repeated;
       refused = one_counted is_refused old.counts.refused new.counts.refused (length new.lines.items) before receipt less fits refused h.refused;
     }
+
+-- ---- all receipts
+
+-- the counts of the receipts
+counts_are : (all : Receipts) (csv : Bool) (receipts : List Receipt) → AreReceipts csv all receipts
+    → printed_after csv all.counts.taken all.counts.repeated all.counts.refused
+    ≡ printed_after csv (count_by is_taken receipts) (count_by is_repeated receipts) (count_by is_refused receipts)
+counts_are all csv receipts are =
+    ap (λ (n : ℕ). printed_after csv n all.counts.repeated all.counts.refused) are.taken
+    ∙ ap₂ (λ (n m : ℕ). printed_after csv (count_by is_taken receipts) n m) are.repeated are.refused
+
+rows_or_lines : (csv : Bool) (receipts : List Receipt)
+    → (printed_before csv ++ flat_map (printed_receipt csv) receipts)
+    ++ printed_after csv (count_by is_taken receipts) (count_by is_repeated receipts) (count_by is_refused receipts)
+    ≡ printed_receipts csv receipts
+rows_or_lines true receipts = append-nil (receipt_rows receipts)
+rows_or_lines false receipts = refl
+
+-- what is printed of all receipts, and then of their counts
+pub all_printed : (csv : Bool) (all : Receipts) (receipts : List Receipt) (lines : List ℕ)
+    → lines ≡ all.lines.items ++ printed_after all.csv all.counts.taken all.counts.repeated all.counts.refused
+    → AreReceipts csv all receipts → lines ≡ printed_receipts csv receipts
+all_printed csv all receipts lines is are =
+    is
+    ∙ ap (λ (b : Bool). all.lines.items ++ printed_after b all.counts.taken all.counts.repeated all.counts.refused)
+    are.form
+    ∙ ap₂ (λ (bs more : List ℕ). bs ++ more) are.lines (counts_are all csv receipts are)
+    ∙ rows_or_lines csv receipts
 
 -- ---- texts
 

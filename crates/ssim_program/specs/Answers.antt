@@ -37,6 +37,7 @@ use Rattle.ssim_command_line.specs.declared.command_line.FindingsForm.{FindingsF
 use Rattle.ssim_command_line.specs.declared.command_line.DiffForm.{DiffForm}
 use Rattle.ssim_command_line.specs.declared.command_line.ListForm.{ListForm}
 use Rattle.ssim_command_line.specs.declared.command_line.ModeWord.{ModeWord}
+use Rattle.ssim_command_line.specs.declared.command_line.ReceiveForm.{ReceiveForm}
 use Rattle.ssim_program.specs.Acts.{Act, Print, Keep, found_then, prints, prints_then, reports}
 use Rattle.ssim_program.specs.Carrying.{AreOfOneAirline, carried}
 use Rattle.ssim_program.specs.Converting.{converted, mode_named}
@@ -52,7 +53,8 @@ use Rattle.ssim_program.specs.Messages.{flights_on, printed_messages}
 use Rattle.ssim_program.specs.Places.{place_in}
 use Rattle.ssim_program.specs.Splitting.{split}
 use Rattle.ssim_program.specs.Spans.{dates_alone, has_end, lines_found}
-use Rattle.ssim_program.specs.Receiving.{any_refused, places_in, receipt_lines, received, received_files}
+use Rattle.ssim_program.specs.Receiving.{any_refused, places_in, printed_receipts, received}
+use Rattle.ssim_program.specs.Receiving.{received_files}
 use Rattle.ssim_program.specs.Timetables.{carrier_of, known_in, shown_in, timetable_in}
 use Rattle.ssim_program.specs.MergingSince.{IsOver, merged_since, older_in}
 use Rattle.ssim_program.specs.Withdrawing.{withdrawn}
@@ -114,15 +116,16 @@ take files file out names = do
   desk ← desk_in files file
   take_each files out names desk
 
--- The desk in a file tries the texts of mailboxes. The line of each is printed, the refused texts
--- are kept, if a name is given, and then the desk. If the words ask for the status, it says whether
--- there are refused texts or files that were not read.
-abbrev pub receive : Option Files → Option Text → Bool → Text → Text → List Text → Answer (List Act)
-receive files refused status file out names = do
+-- The desk in a file tries the texts of mailboxes. The line or the row of each is printed, the
+-- refused texts are kept, if a name is given, and then the desk. If the words ask for the status, it
+-- says whether there are refused texts or files that were not read.
+abbrev pub receive : Option Files → Option Text → ReceiveForm → Text → Text → List Text
+    → Answer (List Act)
+receive files refused form file out names = do
   places ← places_in files refused file out names
   result ← received files file names
-  Gives (found_then (status && any_refused result.0)
-      (Print (receipt_lines result.0) ∷ received_files refused out result.0 result.1))
+  Gives (found_then (form.status && any_refused result.0)
+      (Print (printed_receipts form.csv result.0) ∷ received_files refused out result.0 result.1))
 
 -- A desk that holds what two desks hold, in order of reference, and the number of its messages.
 abbrev pub merge : Option Files → Text → Text → Text → Answer (List Act)
@@ -381,8 +384,8 @@ answers (Problems form name) files = reports form.status (problems files form.cs
 answers (Tidy name) files = tidy files name
 answers (Start dataset stations out) files = start files dataset stations out
 answers (Take file out names) files = take files file out names
-answers (Receive refused status file out names) files =
-    receive files refused status file out names
+answers (Receive refused form file out names) files =
+    receive files refused form file out names
 answers (Merge since file other out) files = merge_either files since file other out
 answers (Carry file other out) files = carry files file other out
 answers (Withdraw file out references) files = withdraw files file out references

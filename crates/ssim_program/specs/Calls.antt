@@ -18,7 +18,7 @@ use Rattle.ssim_program.specs.declared.refusal.Refusal.{Refusal}
 abbrev pub IsEventOf : Line → Event → Type 0
 IsEventOf (Start dataset stations out) event = event ≡ StartKept dataset stations out
 IsEventOf (Take desk out texts) event = event ≡ TakeKept desk out texts
-IsEventOf (Receive refused status desk out names) event =
+IsEventOf (Receive refused form desk out names) event =
     ((receipts : List Receipt) × (event ≡ ReceiveKept refused desk out names receipts))
     ⊎ ((name : Text) × (texts : List ℕ) × (refused ≡ Some name) × (event ≡ Came name texts))
 IsEventOf (Merge None mine theirs out) event = event ≡ MergeKept mine theirs out

@@ -8,9 +8,11 @@ use Rattle.std.specs.List.{count_by, flat_map, list_any}
 use Rattle.std.specs.Str.{bytes_eq}
 use Rattle.ssim_base.specs.BaseSeen.{BaseSeen}
 use Rattle.ssim_base.specs.Export.{line}
+use Rattle.ssim_listing.specs.Rows.{row}
 use Rattle.ssim_base.specs.declared.place.Place.{Place}
 use Rattle.ssim_base.specs.declared.place.Place.TheVariants.{Line}
 use Rattle.ssim_text.specs.Message.{MessageValue}
+use Rattle.ssim_text.specs.Reference.{printed_reference}
 use Rattle.ssim_text.specs.declared.reference.Reference.{Reference}
 use Rattle.ssim_mailbox.specs.Again.{bytes_of}
 use Rattle.ssim_mailbox.specs.Texts.{MailText, texts_in}
@@ -30,8 +32,8 @@ use Rattle.ssim_program.specs.Made.{HasFile, IsMissing, file_limit}
 use Rattle.ssim_program.specs.Places.{place_in}
 use Rattle.ssim_program.specs.print.Names.{printed_name}
 use Rattle.ssim_program.specs.print.PrintedLine.{printed_text}
-use Rattle.ssim_program.specs.print.Refusal.{IsOfFile, place_text, refusal_head}
-use Rattle.ssim_program.specs.print.Refusal.{refusal_place}
+use Rattle.ssim_program.specs.print.Refusal.{IsOfFile, place_text, refusal_head, refusal_name}
+use Rattle.ssim_program.specs.print.Refusal.{refusal_number, refusal_place}
 use Rattle.ssim_program.specs.declared.content_kind.ContentKind.TheVariants as kind
 use Rattle.ssim_program.specs.declared.refusal.Refusal.TheVariants as refused
 
@@ -151,11 +153,47 @@ total_text taken repeated refused =
     codes "taken " ++ decimal taken ++ codes " repeated " ++ decimal repeated
     ++ codes " refused " ++ decimal refused
 
+-- the word of what became of a message
+abbrev pub took_word : Took → List ℕ
+took_word took.Taken = codes "taken"
+took_word took.Repeated = codes "repeated"
+
+-- the names of the fields of CSV
+abbrev pub receipt_names : List (List ℕ)
+receipt_names =
+    codes "file" ∷ codes "line" ∷ codes "result" ∷ codes "reference" ∷ codes "number"
+    ∷ codes "name" ∷ codes "place" ∷ []
+
+-- The fields of a text, or of a file that cannot be read. What a refusal names is a field, as in the
+-- line: `row` takes off the blank before it.
+abbrev pub receipt_fields : Receipt → List (List ℕ)
+receipt_fields (Accepted file n answer reference) =
+    printed_name file ∷ decimal n ∷ took_word answer ∷ printed_reference reference
+    ∷ [] ∷ [] ∷ [] ∷ []
+receipt_fields (Refused file text fault) =
+    let why = refused.Desk fault in
+    printed_name file ∷ decimal text.line ∷ codes "refused" ∷ [] ∷ decimal (refusal_number why)
+    ∷ refusal_name why ∷ place_text (place_in_file text.line (refusal_place why)) ∷ []
+receipt_fields (Unread file) =
+    printed_name file ∷ [] ∷ codes "refused" ∷ [] ∷ codes "91" ∷ codes "File" ∷ [] ∷ []
+
+-- the row of a text, or of a file that cannot be read
+abbrev pub receipt_row : Receipt → List ℕ
+receipt_row receipt = row (receipt_fields receipt)
+
+-- the row of names, and the rows of receipts, in order
+abbrev pub receipt_rows : List Receipt → List ℕ
+receipt_rows receipts = row receipt_names ++ flat_map receipt_row receipts
+
 -- the lines of receipts, in order, and the line that counts them
 abbrev pub receipt_lines : List Receipt → List ℕ
 receipt_lines receipts = flat_map (λ r. line (receipt_text r)) receipts
     ++ line (total_text (count_by is_taken receipts) (count_by is_repeated receipts)
     (count_by is_refused receipts))
+
+-- receipts as rows, or as lines
+abbrev pub printed_receipts : Bool → List Receipt → List ℕ
+printed_receipts csv receipts = if csv then receipt_rows receipts else receipt_lines receipts
 
 -- ---- what is kept
 

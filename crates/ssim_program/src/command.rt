@@ -97,14 +97,14 @@ pub(crate) fn make<'r, S: Store>(
         Request::Take { desk, out, texts } => take::take(alloc, desk, out, texts, store),
         Request::Receive {
             refused,
-            status,
+            form,
             desk,
             out,
             texts,
         } => {
             let words = ReceiveWords {
                 refused: *refused,
-                status: *status,
+                form: *form,
                 texts,
             };
             receive::receive(alloc, &words, desk, out, store)

@@ -2,6 +2,7 @@
 
 mod mailboxes;
 mod receipt;
+mod receipt_rows;
 
 ghost use Rattle.std.specs.Prelude.{◌≡◌, ◌&&◌, ◌∷◌, Err, IfErr, IfOk, IfSome, IsTrue, Ok, map, option_map};
 ghost use Rattle.std.specs.List.{list_any};
@@ -19,6 +20,7 @@ use crate::hold::hold;
 use crate::made::{Contents, Kept, Made};
 use crate::refusal::Refusal;
 use crate::store::{Hold, Store};
+use ssim_command_line::ReceiveForm;
 use ssim_desk::Holdings;
 use std::alloc::Global;
 
@@ -26,7 +28,7 @@ use std::alloc::Global;
 #[derive(Clone, Copy)]
 pub(crate) struct ReceiveWords<'a> {
     pub refused: Option<&'a str>,
-    pub status: bool,
+    pub form: ReceiveForm,
     pub texts: &'a [&'a str],
 }
 
@@ -37,7 +39,7 @@ struct Received {
     desk: Holdings,
     /// Whether a text was refused, or a file was not read.
     found: bool,
-    /// What became of each text.
+    /// What became of each text, as rows or as lines.
     lines: Vec<u8>,
     /// The refused texts.
     refused: Vec<u8>,
@@ -46,11 +48,12 @@ struct Received {
 /// Tries the texts of these mailbox files at the desk in a file.
 fn received_by<S: Store>(
     alloc: Global,
+    csv: bool,
     file: &str,
     names: &[&str],
     store: &mut S,
 ) -> Result<Received, Refusal>
-    ensures ok { IfOk result (λ r. HasReceived (S.files store.old) file.now
+    ensures ok { IfOk result (λ r. HasReceived csv (S.files store.old) file.now
         (map (λ t. t.now) names.now) r.desk r.found r.lines.items r.refused.items) }
     ensures err { IfErr result (λ why. received (S.files store.old) file.now
         (map (λ t. t.now) names.now) (Err why)) }
@@ -58,7 +61,7 @@ fn received_by<S: Store>(
     ensures counted { S.failures store.new ≡ S.failures store.old }
 {
     let mut desk = open_intake(alloc, file, store)?;
-    let receipts = receive_files(alloc, &mut desk, names, store)?;
+    let receipts = receive_files(alloc, csv, &mut desk, names, store)?;
     let found = receipts.has_refused();
     let (lines, refused) = receipts.finish()?;
     let desk = desk.finish()?;
@@ -173,8 +176,8 @@ fn kept_texts<H: Hold + Drop>(place: Option<H>, texts: Vec<u8>) -> Option<Kept<H
     Some(Kept { place, contents })
 }
 
-/// Tries the texts of mailbox files at the desk in a file. The lines say what became of each; then
-/// the refused texts are kept, if a file is named for them, and then the desk file.
+/// Tries the texts of mailbox files at the desk in a file. The lines or rows say what became of each;
+/// then the refused texts are kept, if a file is named for them, and then the desk file.
 ///
 /// The file for refused texts has to be new or empty, and none that the command reads or keeps. A
 /// text that is refused, with 90 too, is a line, and so is a file that cannot be read. If there is
@@ -188,13 +191,13 @@ pub(crate) fn receive<'n, S: Store>(
 ) -> Result<Made<'n, S::Hold>, Refusal>
     requires fresh { IsTrue (S.is_fresh store.now) }
     ensures answer { MakesOr S.Hold.file (S.files store.old)
-        (receive (S.files store.old) (option_map (λ t. t.now) words.now.refused) words.now.status
+        (receive (S.files store.old) (option_map (λ t. t.now) words.now.refused) words.now.form
         file.now out.now (map (λ t. t.now) words.now.texts.now)) result }
     ensures same { S.files store.new ≡ S.files store.old }
     ensures counted { S.failures store.new ≡ S.failures store.old }
 {
     let places = hold_places(alloc, words.refused, file, out, words.texts, store)?;
-    let received = received_by(alloc, file, words.texts, store)?;
+    let received = received_by(alloc, words.form.csv, file, words.texts, store)?;
     let lines = received.lines;
     let refused = kept_texts(places.refused, received.refused);
     let kept = Kept {
@@ -211,7 +214,7 @@ pub(crate) fn receive<'n, S: Store>(
 
 /// Whether the status says that a text was refused, or that a file was not read.
 fn is_told(words: &ReceiveWords<'_>, found: bool) -> bool
-    ensures { result ≡ (words.now.status && found) }
+    ensures { result ≡ (words.now.form.status && found) }
 {
-    words.status && found
+    words.form.status && found
 }

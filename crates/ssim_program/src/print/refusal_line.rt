@@ -4,7 +4,7 @@ ghost use Rattle.std.specs.Prelude.{◌++◌, ◌∷◌, Some, codes, decimal};
 ghost use Rattle.ssim_values.specs.Designator.{designator_text};
 ghost use Rattle.ssim_text.specs.Reference.{printed_originator, printed_reference};
 ghost use Rattle.ssim_base.specs.Export.{line};
-ghost use Rattle.ssim_program.specs.Receiving.{refused_at};
+ghost use Rattle.ssim_program.specs.Receiving.{place_in_file, refused_at};
 ghost use Rattle.ssim_program.specs.internal.Print.{Prints, PrintsPart, without_originator};
 ghost use Rattle.ssim_program.specs.print.Refusal.{named_text, place_text, refusal_file};
 ghost use Rattle.ssim_program.specs.print.Refusal.{refusal_head};
@@ -50,6 +50,36 @@ impl fmt::Display for RefusalLine<'_> {
     }
 }
 
+/// What the refusal of a text in a mailbox names, after a blank. Lines are counted from the first line
+/// of the mailbox.
+#[derive(Clone, Copy, Debug)]
+pub(crate) struct PlaceInFile {
+    /// The number of the text's first line, from 1.
+    pub first: usize,
+    /// The place in the text.
+    pub place: Place,
+}
+
+impl fmt::Display for PlaceInFile {
+    ghost output = { λ p. Some (place_text (place_in_file p.first p.place)) };
+
+    fn fmt<W: fmt::Write>(&self, f: &mut fmt::Formatter<W>) -> fmt::Result {
+        match self.place {
+            Place::Nowhere => Ok(()),
+            Place::Record(record) => write!(f, " record {record}"),
+            Place::Column { record, column } => write!(f, " record {record} column {column}"),
+            Place::Line(line) => {
+                let line_in_file = (self.first as u128 + line as u128).saturating_sub(1);
+                write!(f, " line {line_in_file}")
+            }
+            Place::SubMessage(sub) => write!(f, " sub {sub}"),
+            Place::Offset(offset) => write!(f, " offset {offset}"),
+            Place::Flight(flight) => write!(f, " flight {flight}"),
+            Place::Message(reference) => write!(f, " {reference}"),
+        }
+    }
+}
+
 /// The line of the refusal of a text in a mailbox, without its end. Its place is counted from the
 /// first line of the mailbox.
 #[derive(Clone, Copy, Debug)]
@@ -65,18 +95,13 @@ impl fmt::Display for RefusedAt {
 
     fn fmt<W: fmt::Write>(&self, f: &mut fmt::Formatter<W>) -> fmt::Result {
         let refusal = Refusal::from(self.fault);
-        match refusal.place() {
-            Place::Line(line) => {
-                let number = refusal.number();
-                let name = refusal.name();
-                let line_in_file = (self.first as u128 + line as u128).saturating_sub(1);
-                write!(f, "refused {number} {name} line {line_in_file}")
-            }
-            _ => {
-                let line = RefusalLine { refusal: &refusal };
-                write!(f, "{line}")
-            }
-        }
+        let number = refusal.number();
+        let name = refusal.name();
+        let place = PlaceInFile {
+            first: self.first,
+            place: refusal.place(),
+        };
+        write!(f, "refused {number} {name}{place}")
     }
 }
 

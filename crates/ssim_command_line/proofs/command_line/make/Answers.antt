@@ -15,9 +15,9 @@ returns-in_ok-to_vec-in-len2-up c =
 pub returns-in_ok-to_vec-in-len2-up-values : goal.returns-in_ok-to_vec-in-len2-up-values
 returns-in_ok-to_vec-in-len2-up-values c =
     let is : c.args.name.now ≡ codes "receive" = search rules in
-    several_made (Receive (option_map (λ r. r.now) c.refused_of.result) c.status_of.result) _
+    several_made (Receive (option_map (λ r. r.now) c.refused_of.result) c.receive_form_of.result) _
     (codes "receive") (rows_of (found_of c.args.inner.now)) _ _ _ _ is
-    (λ vs. rw c.refused_of.ensures (rw c.status_of.ensures refl))
+    (λ vs. rw c.refused_of.ensures (rw c.receive_form_of.ensures refl))
     c.in-len3-up-values.len_at_least
     (c.in_ok-to_vec-in-len2-up-values.ensures.items_if_clones_equal (λ x y e. e)) (omega arith)
 

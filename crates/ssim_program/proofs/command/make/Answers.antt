@@ -80,7 +80,7 @@ pub returns-in-Receive-clause-answer : goal.returns-in-Receive-clause-answer
 returns-in-Receive-clause-answer g c = let old = g.S.Store.files c.args.store.now in
     made_of _ _ _ _ _ c.in-Receive.is
     (subst (λ (words : List (Bor (List ℕ))). MakesOr g.S.Hold.Hold.file old
-    (answer.receive old (option_map (λ t. t.now) c.in-Receive.refused) c.in-Receive.status
+    (answer.receive old (option_map (λ t. t.now) c.in-Receive.refused) c.in-Receive.form
     c.in-Receive.desk.now c.in-Receive.out.now (map (λ t. t.now) words)) c.receive.result)
     c.deref-in-Receive.ensures.value c.receive.ensures.answer)
 

@@ -88,19 +88,21 @@ fn receive_file<S: Store>(
     }
 }
 
-/// Tries the texts of the mailboxes in the files of these names, in order.
+/// Tries the texts of the mailboxes in the files of these names, in order. The receipts are rows of
+/// CSV, or lines.
 pub(crate) fn receive_files<S: Store>(
     alloc: Global,
+    csv: bool,
     desk: &mut Intake,
     names: &[&str],
     store: &mut S,
 ) -> Result<Receipts, Memory>
-    ensures received { IfOk result (λ receipts. HasReceipts (S.files store.old)
+    ensures received { IfOk result (λ receipts. HasReceipts csv (S.files store.old)
         (map (λ t. t.now) names.now) desk.old receipts desk.new) }
     ensures same { S.files store.new ≡ S.files store.old }
     ensures counted { S.failures store.new ≡ S.failures store.old }
 {
-    let mut receipts = Receipts::new(alloc);
+    let mut receipts = Receipts::new(alloc, csv)?;
     for name in names {
         receive_file(alloc, desk, *name, store, &mut receipts)?;
     }

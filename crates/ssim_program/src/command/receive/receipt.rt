@@ -6,8 +6,10 @@ ghost use Rattle.ssim_base.specs.Export.{line};
 ghost use Rattle.ssim_program.specs.Receiving.{beginning_text, is_refused, is_repeated, is_taken};
 ghost use Rattle.ssim_program.specs.Receiving.{receipt_text, refused_text, total_text};
 ghost use Rattle.ssim_program.specs.internal.Receive.{AddsOne, AreReceipts, HasRefused, HaveLines};
+ghost use Rattle.ssim_program.specs.internal.Receive.{printed_after, printed_before, printed_receipt};
 ghost use Rattle.ssim_program.specs.internal.Receive.{receipt_of};
 
+use crate::command::receive::receipt_rows::{push_names, push_receipt};
 use crate::command::take::printed;
 use crate::print::name::printed_name;
 use crate::print::printed_line::add_line;
@@ -158,6 +160,45 @@ fn counted(count: usize, is: bool) -> usize
     count.saturating_add(is as usize)
 }
 
+/// What is printed before all receipts: the row of names of CSV, or nothing.
+fn begun(alloc: Global, csv: bool) -> Result<Vec<u8>, Memory>
+    ensures { IfOk result (λ lines. lines.items ≡ printed_before csv) }
+{
+    let mut lines = Vec::new(alloc);
+    if csv {
+        push_names(alloc, &mut lines)?;
+    }
+    Ok(lines)
+}
+
+/// Adds the row or the line of a receipt.
+fn push_printed(
+    alloc: Global,
+    lines: &mut Vec<u8>,
+    csv: bool,
+    receipt: &Receipt,
+) -> Result<(), Memory>
+    ensures { OnOk result
+        (lines.new.items ≡ lines.old.items ++ printed_receipt csv (receipt_of receipt.now)) }
+{
+    if csv {
+        push_receipt(alloc, lines, receipt)
+    } else {
+        push_line(alloc, lines, receipt)
+    }
+}
+
+/// Adds the line that counts the receipts, unless rows are printed.
+fn push_counts(lines: &mut Vec<u8>, csv: bool, counts: &Counts) -> Result<(), Memory>
+    ensures { OnOk result (lines.new.items ≡ lines.old.items
+        ++ printed_after csv counts.now.taken counts.now.repeated counts.now.refused) }
+{
+    if csv {
+        return Ok(());
+    }
+    add_line(lines, counts)
+}
+
 // ---- the refused texts
 
 /// Adds bytes. The first are moved, so that a large text is not in memory twice.
@@ -189,7 +230,9 @@ fn push_refused(texts: &mut Vec<u8>, receipt: Receipt) -> Result<(), Memory>
 /// What is printed and kept of the receipts so far. The receipts themselves are not kept.
 #[derive(Drop)]
 pub(crate) struct Receipts {
-    /// The line of each.
+    /// Whether each has a row of CSV, and no line.
+    csv: bool,
+    /// The row of names and the row of each; or the line of each.
     lines: Vec<u8>,
     /// The refused texts, each of which NNNN ends.
     texts: Vec<u8>,
@@ -199,18 +242,20 @@ pub(crate) struct Receipts {
 
 impl Receipts {
     /// No receipts.
-    pub(crate) fn new(alloc: Global) -> Receipts
-        ensures { AreReceipts result [] }
+    pub(crate) fn new(alloc: Global, csv: bool) -> Result<Receipts, Memory>
+        ensures { IfOk result (λ receipts. AreReceipts csv receipts []) }
     {
-        Receipts {
-            lines: Vec::new(alloc),
+        let lines = begun(alloc, csv)?;
+        Ok(Receipts {
+            csv,
+            lines,
             texts: Vec::new(alloc),
             counts: Counts {
                 taken: 0,
                 repeated: 0,
                 refused: 0,
             },
-        }
+        })
     }
 
     /// Adds a receipt.
@@ -227,7 +272,7 @@ impl Receipts {
             repeated: counted(repeated, receipt.is_repeated()),
             refused: counted(refused, receipt.is_refused()),
         };
-        push_line(alloc, &mut self.lines, &receipt)?;
+        push_printed(alloc, &mut self.lines, self.csv, &receipt)?;
         push_refused(&mut self.texts, receipt)
     }
 
@@ -238,12 +283,12 @@ impl Receipts {
         self.counts.refused > 0
     }
 
-    /// The lines of the receipts and the line that counts them, and the refused texts.
+    /// The rows of the receipts, or their lines and the line that counts them; and the refused texts.
     pub(crate) fn finish(self) -> Result<(Vec<u8>, Vec<u8>), Memory>
         ensures { IfOk result (λ r. HaveLines self r.0.items r.1.items) }
     {
         let mut lines = self.lines;
-        add_line(&mut lines, &self.counts)?;
+        push_counts(&mut lines, self.csv, &self.counts)?;
         Ok((lines, self.texts))
     }
 }

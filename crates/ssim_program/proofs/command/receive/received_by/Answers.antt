@@ -10,7 +10,7 @@ returns-clause-ok g c =
     let names = map (λ t. t.now) c.args.names.now in
     let before = c.in_ok-desk.desk in
     let has = c.in_ok-receipts.ensures.received in
-    let lines = c.in_ok-lines.ensures has.0 has.2 in
+    let lines = c.in_ok-lines.ensures c.args.csv has.0 has.2 in
     record {
       before = before;
       reads = c.in_ok-desk.ensures.answer;
@@ -19,7 +19,7 @@ returns-clause-ok g c =
           subst (λ (d : DeskSeen). ReceivesEach (g.S.Store.files c.args.store.now) names before has.0 d) (sym c.in_ok-desk-2.ensures)
           (subst (λ (f : Option Files). ReceivesEach f names before has.0 c.receive_files.new.desk) c.open_intake.ensures.same has.1);
       rising = subst AreRising c.held.ensures.value c.held.ensures.rising;
-      found_is = c.has_refused-found.ensures has.0 has.2;
+      found_is = c.has_refused-found.ensures c.args.csv has.0 has.2;
       lines_are = lines.0;
       texts_are = lines.1;
     }

@@ -3,4 +3,4 @@ use Rattle.std.proofs.Common.{ap, nat_lt}
 use Rattle.ssim_program.proofs.command.receive.receipt.Receipts.has_refused.Goals as goal
 
 pub returns : goal.returns
-returns c receipts are = ap (nat_lt 0) are.refused
+returns c csv receipts are = ap (nat_lt 0) are.refused
