@@ -367,7 +367,7 @@ def escaped(text):
 
 # ---- diff
 
-def changes(old, new):
+def changed_dates(old, new):
     """The flights of two timetables, each with the dates on which it differs and its two itineraries on them."""
     for flight in sorted(set(old.flights) | set(new.flights)):
         before, after = old.flights.get(flight, {}), new.flights.get(flight, {})
@@ -378,7 +378,7 @@ def changes(old, new):
 def differing(old, new):
     """The lines of `diff`."""
     lines, flights, dates = [], 0, 0
-    for flight, before, after, values in changes(old, new):
+    for flight, before, after, values in changed_dates(old, new):
         flights, dates = flights + bool(values), dates + len(values)
         for period, day in divided(values):
             lines.append(period_line(old.designator(flight), period))
@@ -403,7 +403,7 @@ def change_lines(old, new):
 def differing_rows(old, new, kind_of):
     """The rows of `diff --csv`; `kind_of` gives the kind of a change."""
     lines = [DIFF_NAMES]
-    for flight, _, _, values in changes(old, new):
+    for flight, _, _, values in changed_dates(old, new):
         for period, day in divided(values):
             head = period_fields(old.designator(flight), period) + [kind_of(*values[day])]
             lines += [cells([*head, side, *leg_fields(leg)]) for side, leg in sides(*values[day])]
