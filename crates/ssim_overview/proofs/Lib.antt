@@ -12,3 +12,6 @@ pub mod SaidSteps
 pub mod SaidHalves
 pub mod SaidStations
 pub mod SaidFlights
+pub mod NoteDates
+pub mod NoteEnds
+pub mod NoteStations

@@ -1,4 +1,5 @@
 pub mod Totals
 pub mod SaidRows
+pub mod StationNotes
 pub mod examples
 pub mod internal

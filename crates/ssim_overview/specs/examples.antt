@@ -1,2 +1,3 @@
 -- Computed examples.
 pub mod SaidRows
+pub mod StationNotes

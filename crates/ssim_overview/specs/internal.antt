@@ -2,3 +2,4 @@
 -- has to believe them.
 pub mod Totals
 pub mod SaidRows
+pub mod StationNotes

@@ -32,8 +32,8 @@ fn no_marks(alloc: Global) -> Result<Vec<bool>, Memory>
     Ok(marks)
 }
 
-// The number of marks.
-fn count_marks(marks: &[bool]) -> usize
+/// The number of marks.
+pub(crate) fn count_marks(marks: &[bool]) -> usize
     ensures { result ≡ count_by (λ mark. mark) marks.now }
 {
     marks.iter().filter(|mark| **mark).count()

@@ -244,8 +244,8 @@ fn held_on(alloc: Global, sayings: &[(Period, Saying)], day: u32) -> Result<Vec<
     Ok(held)
 }
 
-// Whether a period holds a day.
-fn holds(period: &Period, day: u32) -> bool
+/// Whether a period holds a day.
+pub(crate) fn holds(period: &Period, day: u32) -> bool
     requires { day < 36525 }
     ensures { result ≡ holds period.now day }
 {
