@@ -2,7 +2,7 @@
 use Rattle.std.proofs.Common.{◌≡◌, true, false, refl, [], ◌∷◌, Some, None, codes}
 use Rattle.clap.proofs.OnLiterals.{clap_on_literals}
 use Rattle.ssim_command_line.specs.Line.{Board, Calendar, ChoiceTexts, Diff, Findings, Listing, Receive}
-use Rattle.ssim_command_line.specs.Line.{Select, days_in, diff_form_with}
+use Rattle.ssim_command_line.specs.Line.{Select, Start, days_in, diff_form_with}
 use Rattle.ssim_command_line.specs.declared.board_form.Direction.TheVariants.{Arrivals}
 use Rattle.ssim_command_line.specs.Usage.{Names}
 
@@ -21,6 +21,13 @@ by_date : Names (codes "ssimdesk" ∷ codes "list" ∷ codes "summer.ssim" ∷ c
     (codes "Z7341" ∷ []))
 unfolding clap_on_literals
 by_date = record { right = refl; name = codes "list"; rows = _; entered = refl; read = refl }
+
+-- `start season.ssim --notes stations.txt fdh.desk`
+with_notes : Names (codes "ssimdesk" ∷ codes "start" ∷ codes "season.ssim" ∷ codes "--notes"
+    ∷ codes "stations.txt" ∷ codes "fdh.desk" ∷ [])
+    (Start true (codes "season.ssim") (codes "stations.txt") (codes "fdh.desk"))
+unfolding clap_on_literals
+with_notes = record { right = refl; name = codes "start"; rows = _; entered = refl; read = refl }
 
 -- `receive --refused back fdh.desk fdh.desk mail`
 with_refused : Names (codes "ssimdesk" ∷ codes "receive" ∷ codes "--refused" ∷ codes "back" ∷ codes "fdh.desk" ∷ codes "fdh.desk" ∷ codes "mail" ∷ [])

@@ -258,6 +258,10 @@ abbrev pub explain_row : Command
 explain_row = by (codes "explain") (one_value ++ flag (codes "status") ∷ [])
     (λ rows. one (Explain (is_given (codes "status") rows)))
 
+abbrev pub start_row : Command
+start_row = by (codes "start") (three_values ++ flag (codes "notes") ∷ [])
+    (λ rows. three (Start (is_given (codes "notes") rows)))
+
 abbrev pub receive_row : Command
 receive_row = by (codes "receive") (two_values ++ several_texts ∷ receive_words)
     (λ rows. two_and_texts (Receive (first_of (codes "refused") rows) (receive_form_of rows)))
@@ -326,6 +330,11 @@ pub explain_read : IsReader explain_row
 unfolding clap_on_literals
 explain_read = one_reader explain_row.name explain_row.words
     (λ rows. Explain (is_given (codes "status") rows)) (λ a. refl)
+
+pub start_read : IsReader start_row
+unfolding clap_on_literals
+start_read = three_reader start_row.name start_row.words
+    (λ rows. Start (is_given (codes "notes") rows)) (λ a b d. refl)
 
 pub receive_read : IsReader receive_row
 unfolding clap_on_literals
@@ -401,7 +410,7 @@ readers =
     with_one (codes "check") Check
     ∷ record { row = problems_row; reads = problems_read }
     ∷ with_one (codes "tidy") Tidy
-    ∷ with_three (codes "start") Start
+    ∷ record { row = start_row; reads = start_read }
     ∷ with_several (codes "take") Take
     ∷ record { row = receive_row; reads = receive_read }
     ∷ record { row = merge_row; reads = merge_read }

@@ -44,7 +44,7 @@ pub data Line : Type 0 where
   Check : (dataset : Text) → Line
   Problems : (form : ProblemsForm) (dataset : Text) → Line
   Tidy : (dataset : Text) → Line
-  Start : (dataset stations out : Text) → Line
+  Start : (notes : Bool) (dataset stations out : Text) → Line
   Take : (desk out : Text) (texts : List Text) → Line
   Receive : (refused : Option Text) (form : ReceiveForm) (desk out : Text) (texts : List Text) → Line
   Merge : (since : Option Text) (desk other out : Text) → Line
@@ -90,7 +90,8 @@ abbrev pub line_of : Request → Line
 line_of (request.Check dataset) = Check dataset.now
 line_of (request.Problems form dataset) = Problems form dataset.now
 line_of (request.Tidy dataset) = Tidy dataset.now
-line_of (request.Start dataset stations out) = Start dataset.now stations.now out.now
+line_of (request.Start notes dataset stations out) =
+    Start notes dataset.now stations.now out.now
 line_of (request.Take desk out texts) = Take desk.now out.now (map (λ t. t.now) texts.items)
 line_of (request.Receive refused form desk out texts) =
     Receive (option_map (λ r. r.now) refused) form desk.now out.now (map (λ t. t.now) texts.items)
@@ -366,7 +367,11 @@ commands =
       make = λ rows. one (Problems (problems_form_of rows));
     }
     ∷ command (codes "tidy") one_value (one Tidy)
-    ∷ command (codes "start") three_values (three Start)
+    ∷ record {
+      name = codes "start";
+      words = three_values ++ flag (codes "notes") ∷ [];
+      make = λ rows. three (Start (is_given (codes "notes") rows));
+    }
     ∷ command (codes "take") (two_values ++ several_texts ∷ []) (two_and_texts Take)
     ∷ record {
       name = codes "receive";

@@ -113,8 +113,10 @@ pub enum Request<'a> {
     Tidy {
         dataset: &'a str,
     },
-    /// Write the desk file of a data set and a station table.
+    /// Write the desk file of a data set and a station table; with notes, print the stations whose
+    /// variations the table lacks or contradicts.
     Start {
+        notes: bool,
         dataset: &'a str,
         stations: &'a str,
         out: &'a str,
@@ -460,6 +462,13 @@ fn status_of(inner: &ArgMatches<'_>) -> bool
     ensures { result ≡ is_given (codes "status") (rows_of (found_of inner.now)) }
 {
     is_given(inner, "status")
+}
+
+/// Whether notes are to be printed.
+fn notes_of(inner: &ArgMatches<'_>) -> bool
+    ensures { result ≡ is_given (codes "notes") (rows_of (found_of inner.now)) }
+{
+    is_given(inner, "notes")
 }
 
 /// The older desk from which both desks came, if one is named.

@@ -107,17 +107,21 @@ Example:
 writes the same flights on the same dates, with serials from 000001 on.
 Exit status: 0; 1 if the data set is refused, or a flight has more than 99
 variations."
-        "start" [First("DATASET"), Second("STATIONS"), Third("OUT")]
-            => Start(dataset, stations, out)
+        "start" [First("DATASET"), Second("STATIONS"), Third("OUT"), Flag("notes")]
+            => Start(dataset, stations, out; notes: notes_of)
         "Write the desk file of a data set and a station table"
         "\
 Example:
   ssimdesk start season.ssim stations.txt fdh.desk
 writes the file 'fdh.desk' and prints:
   held 0
-Exit status: 0; 1 if the data set or the table is refused, a file cannot be read
-or written, another command holds OUT (92), or OUT is a file of another kind
-(93)."
+With --notes it prints before that line a note for each station whose UTC
+variation the table lacks ('missing') or contradicts ('other') on dates with a
+leg, with the number of these dates, the first and the last of them:
+  note Station ATH missing 86 04MAY27 29SEP27
+Exit status: 0, also with notes; 1 if the data set or the table is refused, a
+file cannot be read or written, another command holds OUT (92), or OUT is a file
+of another kind (93)."
         "take" [First("DESK"), Second("OUT"), Several("TEXT")] => Take(desk, out; texts+)
         "Take SSM and ASM texts at a desk, if none of them is refused"
         "\

@@ -30,6 +30,10 @@ const WORDS: &[(Told, &str)] = &[
         "Print how many changes of each kind there are",
     ),
     (Id("status"), "End with exit status 3 if something is found"),
+    (
+        Id("notes"),
+        "Print the stations that the table lacks or contradicts",
+    ),
     (Id("days"), "Print N dates, each under a heading"),
     (Id("departures"), "Print the departures alone"),
     (Id("arrivals"), "Print the arrivals alone"),

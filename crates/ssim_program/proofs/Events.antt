@@ -4,6 +4,7 @@
 use Rattle.std.proofs.Common.{◌≡◌, ◌∙◌, ◌⊎◌, ◌&&◌, inl, inr, ℕ, Bool, true, false, List, [], ◌∷◌, ◌++◌}
 use Rattle.std.proofs.Common.{Option, Some, None, Result, Ok, Err, refl, sym, ap, subst, drop}
 use Rattle.ssim_held.specs.Entries.{DeskSeen}
+use Rattle.ssim_held.specs.File.{desk_file}
 use Rattle.ssim_command_line.specs.Line.{Line, Text}
 use Rattle.ssim_command_line.specs.Line as line
 use Rattle.ssim_command_line.specs.Usage.{Names}
@@ -20,6 +21,7 @@ use Rattle.ssim_program.specs.Receiving.{refused_texts}
 use Rattle.ssim_program.specs.Runs.{Runs}
 use Rattle.ssim_program.specs.World.{World}
 use Rattle.ssim_program.specs.print.Paper.{Paper}
+use Rattle.ssim_program.specs.print.StationNotes.{start_lines}
 use Rattle.ssim_program.specs.declared.refusal.Refusal.{Refusal}
 use Rattle.ssim_program.proofs.Acting.{performed}
 use Rattle.ssim_program.proofs.Origins.{same_some}
@@ -189,10 +191,15 @@ module _ (old new : Files) (acts done later : List Act) (split : acts ≡ done +
       (ap kept_by are ∙ kept_too (form.status && made.1) (Print made.0 ∷ []))
   of_line (line.Tidy name) (set, read, (bytes, is, are)) =
       looks _ old new acts done later split left (ap kept_by are)
-  of_line (line.Start dataset stations out) (_, may, (base, read, (records, are))) =
+  of_line (line.Start notes dataset stations out) (_, may, (base, read, (records, are))) =
       keeps_one _ old new acts done later split left _ (StartKept dataset stations out)
       (ap kept_by are) refl
-      (λ is. (acts, (tt, may, (base, read, (records, are))), ap is_whole are, is))
+      (λ is. (
+        Keep out (desk_file base []) ∷ Print (start_lines false base) ∷ [],
+        (tt, may, (base, read, (records, refl))),
+        refl,
+        is ∙ ap (λ (k : Kept). with_kept k (Some old)) (ap kept_by are),
+      ))
   of_line (line.Take desk out texts) made = took desk out texts made
   of_line (line.Receive refused form desk out names) made =
       received refused form desk out names made

@@ -68,6 +68,7 @@ use Rattle.ssim_program.specs.print.Listing.{printed_list}
 use Rattle.ssim_program.specs.print.Page.{message_articles}
 use Rattle.ssim_program.specs.print.HistoryRows.{printed_history}
 use Rattle.ssim_program.specs.print.Shown.{findings_lines, shown_on}
+use Rattle.ssim_program.specs.print.StationNotes.{start_lines}
 use Rattle.ssim_program.specs.declared.content_kind.ContentKind.TheVariants as kind
 use Rattle.ssim_program.specs.declared.refusal.Refusal.TheVariants as refused
 
@@ -93,12 +94,14 @@ tidy files name = do
 
 -- ---- desks that are kept
 
--- A new desk, which holds no message. The records of its base can be written.
-abbrev pub start : Option Files → Text → Text → Text → Answer (List Act)
-start files dataset stations out = do
+-- A new desk, which holds no message; and, if the words ask for notes, the stations whose variations
+-- the station table lacks or contradicts. The records of its base can be written.
+abbrev pub start : Option Files → Bool → Text → Text → Text → Answer (List Act)
+start files notes dataset stations out = do
   place ← place_in files out kind.DeskFile
   base ← base_in files dataset stations
-  Known (IsBaseRecords base.records) (Keep out (desk_file base []) ∷ Print (held_line 0) ∷ [])
+  Known (IsBaseRecords base.records)
+      (Keep out (desk_file base []) ∷ Print (start_lines notes base) ∷ [])
 
 -- The texts in the files of these names are taken one after another, and each line is printed as it
 -- is made. At last the desk is kept.
@@ -382,7 +385,7 @@ abbrev pub answers : Line → Option Files → Answer (List Act)
 answers (Check name) files = prints (check files name)
 answers (Problems form name) files = reports form.status (problems files form.csv name)
 answers (Tidy name) files = tidy files name
-answers (Start dataset stations out) files = start files dataset stations out
+answers (Start notes dataset stations out) files = start files notes dataset stations out
 answers (Take file out names) files = take files file out names
 answers (Receive refused form file out names) files =
     receive files refused form file out names

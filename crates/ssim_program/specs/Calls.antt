@@ -16,7 +16,7 @@ use Rattle.ssim_program.specs.declared.refusal.Refusal.{Refusal}
 -- texts alone; or, of `publish` and `convert`, its messages or its data set come; or, of `split`, its
 -- data sets come, all or those before a refusal.
 abbrev pub IsEventOf : Line → Event → Type 0
-IsEventOf (Start dataset stations out) event = event ≡ StartKept dataset stations out
+IsEventOf (Start notes dataset stations out) event = event ≡ StartKept dataset stations out
 IsEventOf (Take desk out texts) event = event ≡ TakeKept desk out texts
 IsEventOf (Receive refused form desk out names) event =
     ((receipts : List Receipt) × (event ≡ ReceiveKept refused desk out names receipts))

@@ -1,7 +1,7 @@
 -- What is in desk files after any commands: offices to whose desks the same messages were brought
 -- have the same desk file.
-use Rattle.std.specs.Prelude.{◌≡◌, ◌⊎◌, ◌↔◌, ℕ, ◌≤◌, true, if◌then◌else◌, List, [], ◌∷◌, ◌++◌, length}
-use Rattle.std.specs.Prelude.{Option, Some, None, Result, Ok, Err}
+use Rattle.std.specs.Prelude.{◌≡◌, ◌⊎◌, ◌↔◌, ℕ, ◌≤◌, true, false, if◌then◌else◌, List, [], ◌∷◌}
+use Rattle.std.specs.Prelude.{◌++◌, length, Option, Some, None, Result, Ok, Err}
 use Rattle.std.specs.Str.{bytes_eq}
 use Rattle.ssim_base.specs.BaseSeen.{BaseSeen}
 use Rattle.ssim_base.specs.Reading.{IsReadAs}
@@ -68,10 +68,10 @@ IsReceived refused desk out names receipts old new = (after : DeskSeen)
     × received (Some old) desk names (Ok (receipts, after))
     × (Some new ≡ with_kept (kept_by (received_files refused out receipts after)) (Some old))
 
--- the event leaves these files
+-- the event leaves these files; those of `start` are the same with and without its notes
 abbrev pub Leaves : Event → Files → Files → Type 0
 Leaves (StartKept dataset stations out) old new =
-    IsDone (start (Some old) dataset stations out) old new
+    IsDone (start (Some old) false dataset stations out) old new
 Leaves (TakeKept desk out texts) old new = IsDone (take (Some old) desk out texts) old new
 Leaves (ReceiveKept refused desk out names receipts) old new =
     IsReceived refused desk out names receipts old new

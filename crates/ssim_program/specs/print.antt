@@ -10,5 +10,6 @@ pub mod Blocks
 pub mod Board
 pub mod Calendar
 pub mod Info
+pub mod StationNotes
 pub mod Paper
 pub mod Page

@@ -90,10 +90,11 @@ pub(crate) fn make<'r, S: Store>(
 {
     match request {
         Request::Start {
+            notes,
             dataset,
             stations,
             out,
-        } => start::start(alloc, dataset, stations, out, store),
+        } => start::start(alloc, *notes, dataset, stations, out, store),
         Request::Take { desk, out, texts } => take::take(alloc, desk, out, texts, store),
         Request::Receive {
             refused,

@@ -13,6 +13,7 @@ pub(crate) mod printer;
 pub(crate) mod problem;
 pub(crate) mod refusal_line;
 pub(crate) mod section;
+pub(crate) mod station_note;
 pub(crate) mod step;
 pub(crate) mod sub_rows;
 
