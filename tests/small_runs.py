@@ -43,6 +43,7 @@ COMMANDS = [
     ("problems of an invalid data set", ["problems", "stations"], None),
     ("tidy", ["tidy", "season"], None),
     ("start", ["start", "season", "stations", "old"], "old"),
+    ("start --notes", ["start", "--notes", "season", "rows", "old"], "old"),
     ("take", ["take", "desk", "desk", "earlier", "first", "later"], "desk"),
     ("receive", ["receive", "--refused", "back", "desk", "new", "mail", "missing"], "new"),
     ("receive --csv", ["receive", "--csv", "--refused", "back", "desk", "new", "mail", "missing"], "new"),
@@ -123,7 +124,8 @@ class Runs:
         self.told = os.path.join(self.room.name, "told")
         os.mkdir(self.folder)
         self.write({name: text.encode() for name, text in TEXTS.items()})
-        self.write({"script": SCRIPT.encode(), "old": b"SSIMDESK of another office\n", "stations": b"ZRH 30MAR25 25OCT25 +0200\nLHR 30MAR25 25OCT25 +0100\n"})
+        self.write({"script": SCRIPT.encode(), "old": b"SSIMDESK of another office\n", "stations": b"ZRH 30MAR25 25OCT25 +0200\nLHR 30MAR25 25OCT25 +0100\n",
+                    "rows": b"ZRH 30MAR25 25OCT25 +0100\n"})
         with open(os.path.join(HERE, "program", "divided.ssim"), "rb") as file:
             lines = file.read().splitlines(keepends=True)
         self.write({"season": b"".join(lines), "twice": b"".join([*lines[:3], *lines[2:]]), "cut": TEXTS["later"][:60].encode(),
