@@ -21,7 +21,7 @@ a row for each leg that `history` prints. `findings` to a date and from the next
 on have together the numbers of all. In a case of `span words` some words of the two commands are invalid.
 
 In a case of `info` the file is a data set or a desk with some messages. What `info` prints has to follow from its carrier record, its lines
-and its flight dates; and where it is refused, `list` is refused for the same.
+and its flight dates; and where it is refused, `list` is refused for the same. A case of `notes` is one of `start --notes` (notes.py).
 """
 import collections
 import copy
@@ -32,6 +32,7 @@ import re
 import carry
 import days
 import messages
+import notes
 import parts
 import small
 from chapter7 import DAY, FILL, OPEN_END, date, dates_of
@@ -39,8 +40,8 @@ from flight_dates import (BOARD_NAMES, LEG_NAMES, Timetable, board, calendar, ce
                           listed_dates, movements, rows)
 from room import Answer, said
 
-KINDS = ["choice", "choice", "choice", "several", "boards", "words", "spans", "spans", "span words", "info", "stations", "changes", "changes", "changes",
-         "change words"]
+KINDS = ["choice", "choice", "choice", "several", "boards", "words", "spans", "spans", "span words", "info", "stations", "notes", "changes", "changes",
+         "changes", "change words"]
 REASONS = ["acted", "absent", "present", "leg", "station"]
 # The most dates that are looked at one by one.
 MANY = 60
@@ -56,6 +57,9 @@ def make(rng, room, kind):
     """Writes the file FILE, a data set or a desk, or the files FROM and TO."""
     if kind == "changes":
         days.make(rng, room, rng.choice(days.KINDS))
+        return kind
+    if kind == "notes":
+        notes.make(rng, room)
         return kind
     if kind not in ("spans", "span words"):
         return parts.make(rng, room, kind)
@@ -626,6 +630,9 @@ def of_stations(room):
 def compared(rng, room, kind):
     if kind == "stations":
         yield from of_stations(room)
+        return
+    if kind == "notes":
+        yield from notes.compared(rng, room)
         return
     if kind == "info":
         yield from of_info(room)
