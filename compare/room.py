@@ -15,6 +15,11 @@ def said(lines):
     return Answer(0, written(lines), "")
 
 
+def lines_of(answer):
+    """The lines that a command printed."""
+    return answer.out.decode("ascii").splitlines()
+
+
 class Room:
     """A program in a folder of its own. What is written there is also written for the peer, if there is one. `counts` has what came."""
 

@@ -10,18 +10,14 @@ of what did not act, has to print those lines of all findings. In a case of `boa
 print what follows from the flight dates; each date what `board` prints of it alone; and departures and arrivals together each line of the
 board, in its order.
 
-A case of `changes` has two files FROM and TO, as in `days`. `diff` with a choice has to print what follows from the dates that differ and of
-which the itinerary in FROM or that in TO is chosen, each taken or left by itself; and `diff --summary` how many of them are of each kind, which
-add up, and turned round are the same but for `added` and `cancelled`; and `diff --csv` a row for each leg of each period, with the kind and the
-side. With `--status` the status has to be 3 if there are such dates. In a case of `change words` some words are invalid.
-
 A case of `spans` has a desk with some messages, whose dates the model of `carry` finds in the desk file. With a span `findings` has to count what
 `history` says of each of these dates, and `texts` has to print the messages, or as CSV the sub-messages, that follow from them. `history --csv` has
 a row for each leg that `history` prints. `findings` to a date and from the next one
 on have together the numbers of all. In a case of `span words` some words of the two commands are invalid.
 
 In a case of `info` the file is a data set or a desk with some messages. What `info` prints has to follow from its carrier record, its lines
-and its flight dates; and where it is refused, `list` is refused for the same. A case of `notes` is one of `start --notes` (notes.py).
+and its flight dates; and where it is refused, `list` is refused for the same. A case of `notes` is one of `start --notes` (notes.py), and one
+of `changes` one of `diff` (changes.py).
 """
 import collections
 import copy
@@ -30,15 +26,16 @@ import datetime
 import re
 
 import carry
+import changes
 import days
 import messages
 import notes
 import parts
 import small
 from chapter7 import DAY, FILL, OPEN_END, date, dates_of
-from flight_dates import (BOARD_NAMES, LEG_NAMES, Timetable, board, calendar, cells, clock, differing, differing_rows, leg_fields, listed,
+from flight_dates import (BOARD_NAMES, LEG_NAMES, Timetable, board, calendar, cells, clock, leg_fields, listed,
                           listed_dates, movements, rows)
-from room import Answer, said
+from room import Answer, lines_of, said
 
 KINDS = ["choice", "choice", "choice", "several", "boards", "words", "spans", "spans", "span words", "info", "stations", "notes", "changes", "changes",
          "changes", "change words"]
@@ -178,95 +175,6 @@ def of_findings(room, names):
         yield f"findings --not-acted {words}", room("findings", "FILE", *words, "--not-acted"), wanted
         wanted = said([FINDING_NAMES, *map(as_row, of_flights)])
         yield f"findings --csv {words}", room("findings", "--csv", "FILE", *words), wanted
-
-
-# ---- changes
-
-def taken_of_both(old, new, chosen):
-    """The two timetables without the flight dates of which neither itinerary is chosen."""
-    both = []
-    for table in old, new:
-        left = copy.copy(table)
-        dates = {flight: {day: legs for day, legs in found.items()
-                          if any(chosen.takes(flight, day, side.flights.get(flight, {}).get(day, ())) for side in (old, new))}
-                 for flight, found in table.flights.items()}
-        left.flights = {flight: found for flight, found in dates.items() if found}
-        both.append(left)
-    return both
-
-
-EQUIPMENT = [(14, 14), (73, 95), (173, 192)]
-BY_COLUMNS = {"rerouted": [(37, 39), (55, 57)], "retimed": [(40, 47), (58, 65), (193, 194)], "equipment": EQUIPMENT}
-SUMMARIES = ["added", "cancelled", *BY_COLUMNS, "other"]
-
-
-def kind_of(before, after):
-    """The kind of a change of a flight date."""
-    if not before or not after:
-        return "cancelled" if before else "added"
-    columns = {kind: [[leg.fields(fields) for leg in legs] for legs in (before, after)] for kind, fields in BY_COLUMNS.items()}
-    return next((kind for kind, (one, other) in columns.items() if one != other), "other")
-
-
-def summary(old, new):
-    """The lines of `diff --summary`."""
-    found = {kind: [] for kind in SUMMARIES}
-    for flight in {**old.flights, **new.flights}:
-        before, after = (table.flights.get(flight, {}) for table in (old, new))
-        for day in {**before, **after}:
-            pair = before.get(day, ()), after.get(day, ())
-            if pair[0] != pair[1]:
-                found[kind_of(*pair)].append(flight)
-    return [f"{kind} flights {len(set(flights))} dates {len(flights)}" for kind, flights in found.items() if flights] + differing(old, new)[-1:]
-
-
-def of_summary(room, words, old, new):
-    """What is compared of the numbers of each kind of change."""
-    answer = room("diff", "--summary", *words)
-    lines = summary(old, new)
-    for line in lines[:-1]:
-        room.counts[f"changes: {line.split()[0]}"] += 1
-    yield f"diff --summary {words}", answer, said(lines)
-    wanted = said(lines)._replace(status=0 if lines == ["same"] else 3)
-    yield f"diff --summary --status {words}", room("diff", "--summary", *words, "--status"), wanted
-    dates = [int(line.split()[-1]) for line in printed(answer) if line != "same"]
-    yield f"dates of diff --summary {words}", sum(dates[:-1]), sum(dates[-1:])
-    turned = {"added": "cancelled", "cancelled": "added"}
-    back = [" ".join([turned.get(word, word) for word in line.split()]) for line in printed(answer)]
-    there = [{"FROM": "TO", "TO": "FROM"}.get(word, word) for word in words]
-    yield f"diff --summary turned round {words}", sorted(printed(room("diff", *there, "--summary"))), sorted(back)
-
-
-def of_changes(rng, room):
-    """What is compared of two timetables and of choices of what one of them has."""
-    exports = [room.exported(name) for name in ("FROM", "TO")]
-    if None in exports:
-        room.counts["not exported"] += 1
-        return
-    old, new = map(Timetable, exports)
-    if (old.airline, old.mode) != (new.airline, new.mode):
-        fault = "41 Airline" if old.airline != new.airline else "40 TimeMode"
-        yield "diff", room("diff", "--from", "1jan99", "FROM", "TO", "Z7A", "--to", "1jan00"), Answer(1, b"", f"refused {fault} sub 0\n")
-        return
-    whole = differing(old, new)
-    yield "diff", room("diff", "FROM", "TO"), said(whole)
-    yield "diff --csv", room("diff", "--csv", "FROM", "TO"), said(differing_rows(old, new, kind_of))
-    for words in ["--csv", "--summary", "FROM", "TO"], ["FROM", "--summary", "TO", "--csv"]:
-        yield f"diff {words}", room("diff", *words), NO_COMMAND
-    yield "diff --csv twice", room("diff", "--csv", "--csv", "FROM", "TO").status, 2
-    yield from of_summary(room, ["FROM", "TO"], old, new)
-    for _ in range(4):
-        chosen = parts.choice(rng, rng.choice([old, new]))
-        before, after = chosen.words(rng, old)
-        wanted = differing(*taken_of_both(old, new, chosen))
-        room.counts["all changes" if wanted == whole else "no change" if wanted == ["same"] else "some changes"] += 1
-        yield f"diff {before} {after}", room("diff", *before, "FROM", "TO", *after), said(wanted)
-        found = said(wanted)._replace(status=0 if wanted == ["same"] else 3)
-        yield f"diff --status {before} {after}", room("diff", *before, "FROM", "--status", "TO", *after), found
-        in_rows = said(differing_rows(*taken_of_both(old, new, chosen), kind_of))
-        yield f"diff --csv {before} {after}", room("diff", *before, "FROM", "TO", *after, "--csv"), in_rows
-        yield f"diff --csv --status {before} {after}", room("diff", "--status", "--csv", *before, "FROM", "TO", *after), in_rows._replace(status=found.status)
-        yield from of_summary(room, [*before, "FROM", "TO", *after], *taken_of_both(old, new, chosen))
 
 
 # ---- spans
@@ -444,13 +352,7 @@ def of_span_words(rng, room):
 
 FIRST, LAST = datetime.date(2000, 1, 1), datetime.date(2099, 12, 31)
 DIRECTIONS = {(): ("dep", "arr"), ("--departures",): ("dep",), ("--arrivals",): ("arr",)}
-NO_COMMAND = Answer(2, b"", "error: the words name no command\n")
 NO_NUMBERS = ["0", "000", "367", "999", "1000", "0007", "", "+7", " 7", "7 ", "-1", "seven", "7.0", "1e2"]
-
-
-def printed(answer):
-    """The lines that a command printed."""
-    return answer.out.decode("ascii").splitlines()
 
 
 def of_kinds(lines, kinds):
@@ -503,10 +405,10 @@ def of_board(rng, room, table):
         wanted = said([BOARD_NAMES, *rows_of_kinds])
         yield f"board --csv {words}", room("board", *rng.choice([["--csv", *words], [*words, "--csv"]])), wanted
     for option in DIRECTIONS if count and count <= 7 else ():
-        alone = [[f"{station} {date(on)}", *printed(room("board", *option, "FILE", station, date(on)))] for on in dates_from(day, count)]
+        alone = [[f"{station} {date(on)}", *lines_of(room("board", *option, "FILE", station, date(on)))] for on in dates_from(day, count)]
         yield f"{count} dates of {station} {day} {option}", answers[option], said(blocks(alone))
     if not count:
-        whole, departures, arrivals = ([line for line in printed(answer) if line != "no flight"] for answer in answers.values())
+        whole, departures, arrivals = ([line for line in lines_of(answer) if line != "no flight"] for answer in answers.values())
         yield f"directions of {station} {day}", sorted(departures + arrivals), sorted(whole)
         for lines, kind in (departures, "dep"), (arrivals, "arr"):
             yield f"order of {kind} {station} {day}", lines, [line for line in whole if line.split()[1] == kind]
@@ -519,7 +421,7 @@ def of_board_words(rng, room, table):
         yield f"board --days={count}", room("board", f"--days={count}", "FILE", station, date(day)).status, 2
     both = rng.sample(["--departures", "--arrivals"], k=2)
     for name in "FILE", "MISSING":
-        yield f"board {both} {name}", room("board", *both, name, station, date(day)), NO_COMMAND
+        yield f"board {both} {name}", room("board", *both, name, station, date(day)), changes.NO_COMMAND
     for option in ["--departures"], ["--arrivals"], ["--days", "7"], ["--csv"]:
         yield f"board {option} twice", room("board", *option, *option, "FILE", station, date(day)).status, 2
         words = [rng.choice([station, "ZR", "ZRHX"]), rng.choice([date(day), "32JAN27", "29FEB27"])]
@@ -644,7 +546,7 @@ def compared(rng, room, kind):
         yield from of_span_words(rng, room)
         return
     if kind == "changes":
-        yield from of_changes(rng, room)
+        yield from changes.of_changes(rng, room)
         return
     whole = room.exported("FILE")
     if whole is None:
