@@ -2,16 +2,17 @@
 ghost use Rattle.std.specs.Prelude.{◌≡◌, ◌++◌, [], IfErr, IfOk, MatchResult, Option, codes, map};
 ghost use Rattle.std.specs.Prelude.{option_map, unwrap_or};
 ghost use Rattle.clap.specs.Words.{all_of, app_of, found_of, first_of, rows_of};
-ghost use Rattle.ssim_command_line.specs.Line.{Line, Spells, form_of, is_given, line_from, values_in};
-ghost use Rattle.ssim_command_line.specs.Line.{choice_line, choice_of, diff_form_of, diff_form_with};
-ghost use Rattle.ssim_command_line.specs.Line.{findings_form_of, line_of};
-ghost use Rattle.ssim_command_line.specs.Line.{mode_of, problems_form_of, receive_form_of};
+ghost use Rattle.ssim_command_line.specs.Line.{Line, Spells, is_given, line_from, values_in};
+ghost use Rattle.ssim_command_line.specs.Line.{choice_line, choice_of, line_of, mode_of};
 ghost use Rattle.ssim_command_line.specs.Line.{span_line, span_of};
 ghost use Rattle.ssim_command_line.specs.Usage.{Names, line_at};
 ghost use Rattle.ssim_command_line.specs.clauses.Usage.{IsFaultOf};
 
 use crate::board_form::{BoardForm, board_form_of};
 use crate::command_name::{CommandName, command_named};
+use crate::forms::{
+    csv_of, diff_form_of, findings_form_of, form_of, problems_form_of, receive_form_of,
+};
 use crate::program::program;
 use crate::table::{PLACES, commands};
 use clap::error::ErrorKind;
@@ -484,79 +485,6 @@ pub(crate) fn is_given(inner: &ArgMatches<'_>, name: &str) -> bool
     ensures { result ≡ is_given name.now (rows_of (found_of inner.now)) }
 {
     option_at(inner, name) == Some("true")
-}
-
-/// Which of the options of `list` are given.
-fn form_of(inner: &ArgMatches<'_>) -> ListForm
-    ensures { result ≡ form_of (rows_of (found_of inner.now)) }
-{
-    ListForm {
-        csv: is_given(inner, "csv"),
-        dates: is_given(inner, "dates"),
-    }
-}
-
-/// How `diff` prints with `--csv`, `--summary` and `--status`: not with both of the first.
-fn diff_form_with(csv: bool, summary: bool, status: bool) -> Option<DiffForm>
-    ensures { result ≡ diff_form_with csv summary status }
-{
-    if csv && summary {
-        None
-    } else {
-        Some(DiffForm {
-            csv,
-            summary,
-            status,
-        })
-    }
-}
-
-/// How `diff` prints.
-fn diff_form_of(inner: &ArgMatches<'_>) -> Option<DiffForm>
-    ensures { result ≡ diff_form_of (rows_of (found_of inner.now)) }
-{
-    diff_form_with(
-        is_given(inner, "csv"),
-        is_given(inner, "summary"),
-        is_given(inner, "status"),
-    )
-}
-
-/// Which of the options of `findings` are given.
-fn findings_form_of(inner: &ArgMatches<'_>) -> FindingsForm
-    ensures { result ≡ findings_form_of (rows_of (found_of inner.now)) }
-{
-    FindingsForm {
-        csv: is_given(inner, "csv"),
-        not_acted: is_given(inner, "not-acted"),
-    }
-}
-
-/// Which of the options of `problems` are given.
-fn problems_form_of(inner: &ArgMatches<'_>) -> ProblemsForm
-    ensures { result ≡ problems_form_of (rows_of (found_of inner.now)) }
-{
-    ProblemsForm {
-        csv: is_given(inner, "csv"),
-        status: is_given(inner, "status"),
-    }
-}
-
-/// Which of the options of `receive` are given.
-fn receive_form_of(inner: &ArgMatches<'_>) -> ReceiveForm
-    ensures { result ≡ receive_form_of (rows_of (found_of inner.now)) }
-{
-    ReceiveForm {
-        csv: is_given(inner, "csv"),
-        status: is_given(inner, "status"),
-    }
-}
-
-/// Whether rows of CSV are printed.
-fn csv_of(inner: &ArgMatches<'_>) -> bool
-    ensures { result ≡ is_given (codes "csv") (rows_of (found_of inner.now)) }
-{
-    is_given(inner, "csv")
 }
 
 /// The span of dates that the options give.

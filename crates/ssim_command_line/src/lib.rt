@@ -10,6 +10,7 @@ mod board_form;
 mod command_help;
 mod command_line;
 mod command_name;
+mod forms;
 mod program;
 mod table;
 mod word_help;
