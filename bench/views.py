@@ -35,8 +35,8 @@ def changed(counts, name):
 
 def beside(counts, title, words, plain, goal):
     """Prints the ratio of two runs."""
-    print(f"| {title}: `{words[0]}`, {' '.join(word for word in words[1:] if word[:2] == '--')} | "
-          f"{counts.of(*words) / counts.of(*plain):.2f} | {goal} |", flush=True)
+    shown = " ".join([words[0], *(word for word in words[1:] if word[:2] == "--")])
+    print(f"| {title}: `{shown}` | {counts.of(*words) / counts.of(*plain):.2f} | {goal} |", flush=True)
 
 
 def count_timetables(counts, title, name):
