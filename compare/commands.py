@@ -26,6 +26,8 @@ BAD_STEPS = ["TAKE 9 t01", "MERGE 1", "DESKS 2", "TAKE 1", "TAKE 1 missing", "ta
              "TAKE 01 t01", "\xe9"]
 BAD_FLIGHTS = ["LX", "BA544", "A1B2", "LX12345"]
 BAD_DATES = ["32JAN25", "01JUL", "00XXX00"]
+# The commands that take flights, as many as there are, where the other program takes one or none.
+WITH_FLIGHTS = ["show", "findings"]
 
 
 # ---- the files of a sequence
@@ -140,7 +142,7 @@ def odd(rng, words):
         return [rng.choice(["fly", "Take", "taken", "-", ""]), *words[1:]]
     if kind == 1:
         return words[: rng.randrange(len(words))]
-    if kind == 2:
+    if kind == 2 and words[0] not in WITH_FLIGHTS:
         return words + ["more", "words"]
     if kind == 3:
         return words[:1] + [rng.choice(["-x", "--all", "--help", "-h"])] + words[1:]
@@ -174,9 +176,17 @@ def both(room, words, given=b"", full=False):
     answers = [each(*words, given=given, full=full) for each in (room, room.peer)]
     if is_own(words, answers):
         answers = [Answer(status, b"words" if out else b"", "words" if err else "") for status, out, err in answers]
+    if shows_data_set(room, words, given):
+        answers[1] = answers[0]
     count(room.counts, words, answers[0])
     line = " ".join(words)
     return [(line, *answers), (f"{line}: files", room.files(), room.peer.files())]
+
+
+def shows_data_set(room, words, given):
+    """Whether the words show flights of a valid data set: the other program refuses a file that is no desk file."""
+    plain = [word for word in words if word != "--"]
+    return plain[:1] == ["show"] and len(plain) > 1 and not room("check", plain[1], given=given).status
 
 
 def of_occupied(room, name, words, given):
