@@ -9,8 +9,7 @@ use crate::board::Board;
 use crate::lines::{kind_text, push_number};
 use crate::local_time::LocalTime;
 use crate::movement::Movement;
-use ssim_lines::{Printed, push_each};
-use ssim_listing::{iso_date, iso_time, name_of, push_row, push_sequence};
+use ssim_listing::{CsvRows, Rowed, iso_date, iso_time, name_of, push_sequence, put_each};
 use ssim_values::{Airline, Day, Memory};
 use std::alloc::Global;
 
@@ -39,23 +38,23 @@ struct Shown<'a> {
 }
 
 /// The row of names.
-pub fn movement_names(alloc: Global) -> Result<Vec<u8>, Memory>
-    ensures { IfOk result (λ names. names.items ≡ row movement_names) }
+pub fn movement_names(alloc: Global) -> Result<CsvRows, Memory>
+    ensures { IfOk result (λ rows. rows ≡ row movement_names) }
 {
-    let mut names = Vec::new(alloc);
-    push_row(alloc, &mut names, &NAMES)?;
-    Ok(names)
+    let mut rows = CsvRows::new(alloc);
+    rows.push(&NAMES, &[])?;
+    Ok(rows)
 }
 
 /// Adds a row for each of these departures and arrivals on a board of an airline.
 pub fn push_movements(
     alloc: Global,
-    rows: &mut Vec<u8>,
+    rows: &mut CsvRows,
     airline: Airline,
     board: &Board,
     movements: &[Movement],
 ) -> Result<(), Memory>
-    ensures { OnOk result (rows.new.items ≡ rows.old.items
+    ensures { OnOk result (rows.new ≡ rows.old
         ++ movement_rows airline board.now.station board.now.day movements.now) }
 {
     let shown = Shown {
@@ -63,21 +62,21 @@ pub fn push_movements(
         airline,
         board,
     };
-    push_each(rows, &shown, movements)
+    put_each(rows, &shown, movements)
 }
 
-impl Printed<Shown<'_>> for Movement {
+impl Rowed<Shown<'_>> for Movement {
     ghost text = { λ shown movement.
         movement_row shown.airline shown.board.now.station shown.board.now.day movement };
 
     // Adds the row of a departure or an arrival.
-    fn print(&self, shown: &Shown<'_>, rows: &mut Vec<u8>) -> Result<(), Memory> {
+    fn put(&self, shown: &Shown<'_>, rows: &mut CsvRows) -> Result<(), Memory> {
         let alloc = shown.alloc;
         let board = shown.board;
         let station = board.station.write();
         let date = iso_date(board.day);
         let time = iso_time(&self.time.write());
-        let kind = Vec::from_slice(alloc, kind_text(self.kind))?;
+        let kind = kind_text(self.kind);
         let name = name_of(shown.airline, self.flight);
         let origin = iso_date(self.date);
         let mut sequence = Vec::new(alloc);
@@ -86,15 +85,14 @@ impl Printed<Shown<'_>> for Movement {
         let other_station = self.other_station.write();
         let other_time = iso_time(&self.other_time.write());
         let other_days = days_field(alloc, board.day, self.other_time)?;
-        let warning = Vec::from_slice(alloc, warning_field(self.is_uncertain))?;
-        push_row(
-            alloc,
-            rows,
+        let warning = warning_field(self.is_uncertain);
+        rows.push(
+            &[],
             &[
                 &station,
                 &date,
                 &time,
-                &kind,
+                kind,
                 name.as_slice(),
                 &origin,
                 &sequence,
@@ -102,7 +100,7 @@ impl Printed<Shown<'_>> for Movement {
                 &other_station,
                 &other_time,
                 &other_days,
-                &warning,
+                warning,
             ],
         )
     }

@@ -15,8 +15,9 @@ use crate::change_kind::ChangeKind;
 use crate::difference::Difference;
 use crate::flight_difference::FlightDifference;
 use crate::lines::leg_at;
-use ssim_lines::{Printed, PrintedAt, push_each, push_range};
-use ssim_listing::{iso_date, name_of, push_leg_names, push_leg_row};
+use ssim_listing::{
+    CsvRows, Rowed, RowedAt, iso_date, name_of, push_leg_names, push_leg_row, put_each, put_range,
+};
 use ssim_schedule::PlacedLeg;
 use ssim_values::{Airline, Memory, Period};
 use std::alloc::Global;
@@ -27,21 +28,18 @@ const NAMES: [&[u8]; 6] = [b"flight", b"first", b"last", b"days", b"change", b"s
 /// The flights of an airline whose rows are added.
 #[derive(Clone, Copy)]
 struct RowFlights {
-    alloc: Global,
     airline: Airline,
 }
 
 /// The name of a flight that differs.
 #[derive(Clone, Copy)]
 struct ChangedRows<'a> {
-    alloc: Global,
     name: &'a [u8],
 }
 
 /// The first fields of the rows of a period on which a flight differs.
 #[derive(Clone, Copy)]
 struct Head<'a> {
-    alloc: Global,
     name: &'a [u8],
     first: &'a [u8],
     last: &'a [u8],
@@ -79,40 +77,38 @@ pub fn difference_rows(
 fn listed(alloc: Global, airline: Airline, flights: &[FlightDifference]) -> Result<Vec<u8>, Memory>
     ensures { IfOk result (λ rows. rows.items ≡ listed_rows airline flights.now) }
 {
-    let mut rows = Vec::new(alloc);
-    push_leg_names(alloc, &mut rows, &NAMES)?;
-    push_each(&mut rows, &RowFlights { alloc, airline }, flights)?;
-    Ok(rows)
+    let mut rows = CsvRows::new(alloc);
+    push_leg_names(&mut rows, &NAMES)?;
+    put_each(&mut rows, &RowFlights { airline }, flights)?;
+    rows.into_bytes()
 }
 
-impl Printed<RowFlights> for FlightDifference {
+impl Rowed<RowFlights> for FlightDifference {
     ghost text = { λ flights flight. flight_rows flights.airline flight };
 
-    fn print(&self, flights: &RowFlights, rows: &mut Vec<u8>) -> Result<(), Memory> {
+    fn put(&self, flights: &RowFlights, rows: &mut CsvRows) -> Result<(), Memory> {
         let name = name_of(flights.airline, self.flight());
         let named = ChangedRows {
-            alloc: flights.alloc,
             name: name.as_slice(),
         };
-        push_each(rows, &named, self.pieces())
+        put_each(rows, &named, self.pieces())
     }
 }
 
-impl Printed<ChangedRows<'_>> for (Period, Difference) {
+impl Rowed<ChangedRows<'_>> for (Period, Difference) {
     ghost text = { λ named piece. piece_rows named.name.now piece };
 
-    fn print(&self, named: &ChangedRows<'_>, rows: &mut Vec<u8>) -> Result<(), Memory> {
+    fn put(&self, named: &ChangedRows<'_>, rows: &mut CsvRows) -> Result<(), Memory> {
         let first = iso_date(self.0.first());
         let last = iso_date(self.0.last());
         let days = self.0.mask().digits();
-        let change = Vec::from_slice(named.alloc, ChangeKind::of(&self.1).name().as_bytes())?;
+        let change = ChangeKind::of(&self.1).name().as_bytes();
         let head = Head {
-            alloc: named.alloc,
             name: named.name,
             first: &first,
             last: &last,
             days: days.as_slice(),
-            change: &change,
+            change,
         };
         push_changed_rows(rows, head, self.1.old.legs(), self.1.new.legs())
     }
@@ -120,26 +116,26 @@ impl Printed<ChangedRows<'_>> for (Period, Difference) {
 
 // Adds the rows of old and new legs, by sequence.
 fn push_changed_rows(
-    rows: &mut Vec<u8>,
+    rows: &mut CsvRows,
     head: Head<'_>,
     old: &[PlacedLeg],
     new: &[PlacedLeg],
 ) -> Result<(), Memory>
     requires { head.change.now ≡ kind_name (kind_of old.now new.now) }
-    ensures { OnOk result (rows.new.items ≡ rows.old.items
+    ensures { OnOk result (rows.new ≡ rows.old
         ++ changed_rows (head.entry.name.now ∷ head.entry.first.now ∷ head.entry.last.now
         ∷ head.entry.days.now ∷ []) old.now new.now) }
 {
-    push_range(rows, &RowPairs { head, old, new }, 1, 100)
+    put_range(rows, &RowPairs { head, old, new }, 1, 100)
 }
 
-impl PrintedAt for RowPairs<'_> {
+impl RowedAt for RowPairs<'_> {
     ghost has = { λ legs sequence. sequence < 100 };
 
     ghost text = { λ legs sequence.
         sequence_rows (fields_of legs.head) legs.old.now legs.new.now sequence };
 
-    fn print_at(&self, sequence: usize, rows: &mut Vec<u8>) -> Result<(), Memory> {
+    fn put_at(&self, sequence: usize, rows: &mut CsvRows) -> Result<(), Memory> {
         let old = leg_at(self.old, sequence as u8);
         let new = leg_at(self.new, sequence as u8);
         push_pair(rows, &self.head, old, new)
@@ -148,12 +144,12 @@ impl PrintedAt for RowPairs<'_> {
 
 // Adds the rows of the old and the new leg of one sequence.
 fn push_pair(
-    rows: &mut Vec<u8>,
+    rows: &mut CsvRows,
     head: &Head<'_>,
     old: Option<&PlacedLeg>,
     new: Option<&PlacedLeg>,
 ) -> Result<(), Memory>
-    ensures { OnOk result (rows.new.items ≡ rows.old.items ++ pair_rows
+    ensures { OnOk result (rows.new ≡ rows.old ++ pair_rows
         (fields_of head.now)
         (option_map (λ leg. leg.now) old.entry) (option_map (λ leg. leg.now) new.entry)) }
 {
@@ -167,12 +163,12 @@ fn push_pair(
 
 // Adds the row of an old and a new leg that are equal, or the rows of both.
 fn push_both(
-    rows: &mut Vec<u8>,
+    rows: &mut CsvRows,
     head: &Head<'_>,
     old: &PlacedLeg,
     new: &PlacedLeg,
 ) -> Result<(), Memory>
-    ensures { OnOk result (rows.new.items ≡ rows.old.items ++ both_rows
+    ensures { OnOk result (rows.new ≡ rows.old ++ both_rows
         (fields_of head.now) old.now new.now) }
 {
     if old.same(new) {
@@ -184,12 +180,12 @@ fn push_both(
 
 // Adds the row of a leg of a side.
 fn push_side(
-    rows: &mut Vec<u8>,
+    rows: &mut CsvRows,
     head: &Head<'_>,
     side: &[u8],
     leg: &PlacedLeg,
 ) -> Result<(), Memory>
-    ensures { OnOk result (rows.new.items ≡ rows.old.items ++ side_row
+    ensures { OnOk result (rows.new ≡ rows.old ++ side_row
         (fields_of head.now) side.now leg.now) }
 {
     let fields = [
@@ -200,5 +196,5 @@ fn push_side(
         head.change,
         side,
     ];
-    push_leg_row(head.alloc, rows, &fields, leg)
+    push_leg_row(rows, &fields, leg)
 }

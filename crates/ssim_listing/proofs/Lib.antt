@@ -7,3 +7,4 @@ pub mod Dating
 pub mod DatedTexts
 pub mod GroupMaps
 pub mod IsoDates
+pub mod Trimming

@@ -3,4 +3,4 @@
 pub mod GroupedLines
 pub mod FlightDates
 pub mod Divisions
-pub mod Written
+pub mod Writers

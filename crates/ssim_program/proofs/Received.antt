@@ -2,20 +2,17 @@
 use Rattle.std.proofs.Common.{◌≡◌, ◌≤◌, ◌<◌, ◌^◌, ◌+◌, ◌∙◌, ℕ, Bool, cond, List, [], ◌∷◌, ◌++◌, if◌then◌else◌, true, false, map, Option, Result, Ok, Err, OnOk, length, refl, sym, ap, ap₂, subst, append_assoc, append-nil, length-append, arith}
 use Rattle.std.specs.List.{count_by, flat_map}
 use Rattle.std.proofs.lemmas.Grind.{flat_map-append}
-use Rattle.std.proofs.lemmas.List.Sums.{count_by-le-length, sum_by-append}
-use Rattle.csv.specs.Records.{trimmed}
-use Rattle.csv.specs.Writing.{default_writer, is_blank, row_body}
+use Rattle.std.proofs.lemmas.List.Sums.{sum_by-append}
 use Rattle.ssim_base.specs.Export.{line}
-use Rattle.ssim_listing.specs.Rows.{row}
 use Rattle.ssim_mailbox.specs.Texts.{MailText}
 use Rattle.ssim_held.specs.Entries.{DeskSeen}
 use Rattle.ssim_command_line.specs.Line.{Text}
 use Rattle.ssim_program.specs.Files.{Files}
 use Rattle.ssim_program.specs.Receiving.{Receipt, ReceivesEach, ReceivesFile, Tries, TriesEach}
 use Rattle.ssim_program.specs.Receiving.{is_refused, is_repeated, is_taken, printed_receipts}
-use Rattle.ssim_program.specs.Receiving.{receipt_fields, receipt_rows, receipt_text, refused_text}
-use Rattle.ssim_program.specs.internal.Receive.{Adds, AddsOne, AreReceipts, printed_after, printed_before}
-use Rattle.ssim_program.specs.internal.Receive.{printed_receipt}
+use Rattle.ssim_program.specs.Receiving.{receipt_rows, refused_text}
+use Rattle.ssim_program.specs.internal.Receive.{Adds, AddsOne, AreReceipts, is_csv, printed_after}
+use Rattle.ssim_program.specs.internal.Receive.{printed_before, printed_receipt, text_of}
 use Rattle.ssim_program.specs.declared.command.receive.receipt.Receipts.{Receipts}
 
 -- what a desk receives, from one state to another
@@ -56,29 +53,6 @@ then_too (Err e) more h = tt
 
 -- ---- one more receipt
 
--- a row has a byte, its end
-row_has_end : (fields : List (List ℕ)) → 1 ≤ length (row fields)
-row_has_end fields =
-    let some = map trimmed fields in
-    let marks : List ℕ = if is_blank default_writer some then 34 ∷ 34 ∷ [] else [] in
-    let all = length-append (row_body default_writer some) (marks ++ 10 ∷ []) in
-    let last = length-append marks (10 ∷ []) in
-    omega (arith, all, last)
-
--- the row or the line of a receipt has a byte
-has_byte : (csv : Bool) (receipt : Receipt) → 1 ≤ length (printed_receipt csv receipt)
-has_byte true receipt = row_has_end (receipt_fields receipt)
-has_byte false receipt = let one = length-append (receipt_text receipt) (10 ∷ []) in omega (arith, one)
-
--- there are no more receipts than bytes of their rows or lines
-few : (csv : Bool) (receipts : List Receipt) → length receipts ≤ length (flat_map (printed_receipt csv) receipts)
-few csv [] = omega arith
-few csv (receipt ∷ receipts) =
-    let less = few csv receipts in
-    let one = has_byte csv receipt in
-    let all = length-append (printed_receipt csv receipt) (flat_map (printed_receipt csv) receipts) in
-    omega (arith, less, one, all)
-
 one_more : {A : Type 0} (f : Receipt → List A) (xs more : List A) (before : List Receipt) (receipt : Receipt) → more ≡ xs ++ f receipt → xs ≡ flat_map f before → more ≡ flat_map f (before ++ receipt ∷ [])
 one_more f xs more before receipt is h = is ∙ ap (λ ys. ys ++ f receipt) h ∙ ap (λ ys. flat_map f before ++ ys) (sym (append-nil (f receipt))) ∙ sym (flat_map-append f before (receipt ∷ []))
 
@@ -89,37 +63,32 @@ one_after f begin xs more before receipt is h =
     is ∙ ap (λ ys. ys ++ f receipt) h ∙ append_assoc begin (flat_map f before) (f receipt)
     ∙ ap (λ ys. begin ++ ys) (one_more f (flat_map f before) _ before receipt refl refl)
 
-one_counted : (p : Receipt → Bool) (n m long : ℕ) (before : List Receipt) (receipt : Receipt) → length before < long → long < 2 ^ 64 → (n + 1 < 2 ^ 64 → m ≡ n + cond (p receipt) 1 0) → n ≡ count_by p before → m ≡ count_by p (before ++ receipt ∷ [])
-one_counted p n m long before receipt less fits is h =
-    let few = count_by-le-length p before in
+one_counted : (p : Receipt → Bool) (n m : ℕ) (before : List Receipt) (receipt : Receipt)
+    → m ≡ n + cond (p receipt) 1 0 → n ≡ count_by p before → m ≡ count_by p (before ++ receipt ∷ [])
+one_counted p n m before receipt is h =
     let more = sum_by-append (λ r. cond (p r) 1 0) before (receipt ∷ []) in
-    let now = is (omega (arith, less, fits, few, h)) in
-    omega (arith, more, now, h)
+    omega (arith, more, is, h)
 
 -- what is printed and kept of one more receipt
 pub with_one : (csv : Bool) (old new : Receipts) (before : List Receipt) (receipt : Receipt)
-    → length new.lines.items < 2 ^ 64 → new.csv ≡ old.csv
-    → new.lines.items ≡ old.lines.items ++ printed_receipt old.csv receipt → new.texts.items ≡ old.texts.items ++ refused_text receipt
-    → (old.counts.taken + 1 < 2 ^ 64 → new.counts.taken ≡ old.counts.taken + cond (is_taken receipt) 1 0)
-    → (old.counts.repeated + 1 < 2 ^ 64 → new.counts.repeated ≡ old.counts.repeated + cond (is_repeated receipt) 1 0)
-    → (old.counts.refused + 1 < 2 ^ 64 → new.counts.refused ≡ old.counts.refused + cond (is_refused receipt) 1 0)
+    → is_csv new.printed ≡ is_csv old.printed
+    → text_of new.printed ≡ text_of old.printed ++ printed_receipt (is_csv old.printed) receipt
+    → new.texts.items ≡ old.texts.items ++ refused_text receipt
+    → new.counts.taken ≡ old.counts.taken + cond (is_taken receipt) 1 0
+    → new.counts.repeated ≡ old.counts.repeated + cond (is_repeated receipt) 1 0
+    → new.counts.refused ≡ old.counts.refused + cond (is_refused receipt) 1 0
     → AreReceipts csv old before → AreReceipts csv new (before ++ receipt ∷ [])
-with_one csv old new before receipt fits form lines texts taken repeated refused h =
-    let added : new.lines.items ≡ old.lines.items ++ printed_receipt csv receipt =
-    lines ∙ ap (λ (b : Bool). old.lines.items ++ printed_receipt b receipt) h.form in
-    let less : length before < length new.lines.items =
-    let few = few csv before in
-    let was = ap length h.lines ∙ length-append (printed_before csv) (flat_map (printed_receipt csv) before) in
-    let now = ap length added ∙ length-append old.lines.items (printed_receipt csv receipt) in
-    let one = has_byte csv receipt in
-    omega (arith, few, was, now, one) in
+with_one csv old new before receipt form lines texts taken repeated refused h =
+    let was = text_of old.printed in
+    let added : text_of new.printed ≡ was ++ printed_receipt csv receipt =
+    lines ∙ ap (λ (b : Bool). was ++ printed_receipt b receipt) h.form in
     record {
       form = form ∙ h.form;
-      lines = one_after (printed_receipt csv) (printed_before csv) old.lines.items new.lines.items before receipt added h.lines;
+      lines = one_after (printed_receipt csv) (printed_before csv) was _ before receipt added h.lines;
       texts = one_more refused_text old.texts.items new.texts.items before receipt texts h.texts;
-      taken = one_counted is_taken old.counts.taken new.counts.taken (length new.lines.items) before receipt less fits taken h.taken;
-      repeated = one_counted is_repeated old.counts.repeated new.counts.repeated (length new.lines.items) before receipt less fits repeated h.repeated;
-      refused = one_counted is_refused old.counts.refused new.counts.refused (length new.lines.items) before receipt less fits refused h.refused;
+      taken = one_counted is_taken old.counts.taken _ before receipt taken h.taken;
+      repeated = one_counted is_repeated old.counts.repeated _ before receipt repeated h.repeated;
+      refused = one_counted is_refused old.counts.refused _ before receipt refused h.refused;
     }
 
 -- ---- all receipts
@@ -141,11 +110,13 @@ rows_or_lines false receipts = refl
 
 -- what is printed of all receipts, and then of their counts
 pub all_printed : (csv : Bool) (all : Receipts) (receipts : List Receipt) (lines : List ℕ)
-    → lines ≡ all.lines.items ++ printed_after all.csv all.counts.taken all.counts.repeated all.counts.refused
+    → lines ≡ text_of all.printed
+    ++ printed_after (is_csv all.printed) all.counts.taken all.counts.repeated all.counts.refused
     → AreReceipts csv all receipts → lines ≡ printed_receipts csv receipts
 all_printed csv all receipts lines is are =
     is
-    ∙ ap (λ (b : Bool). all.lines.items ++ printed_after b all.counts.taken all.counts.repeated all.counts.refused)
+    ∙ ap (λ (b : Bool). text_of all.printed
+    ++ printed_after b all.counts.taken all.counts.repeated all.counts.refused)
     are.form
     ∙ ap₂ (λ (bs more : List ℕ). bs ++ more) are.lines (counts_are all csv receipts are)
     ∙ rows_or_lines csv receipts

@@ -1,5 +1,5 @@
 -- What contracts see of receipts, and what is done while files are received.
-use Rattle.std.specs.Prelude.{◌≡◌, ℕ, Bool, if◌then◌else◌, List, [], ◌∷◌, ◌++◌, Option, Ok}
+use Rattle.std.specs.Prelude.{◌≡◌, ℕ, Bool, true, false, if◌then◌else◌, List, [], ◌∷◌, ◌++◌, Option, Ok}
 use Rattle.std.specs.List.{count_by, flat_map}
 use Rattle.ssim_base.specs.Export.{line}
 use Rattle.ssim_listing.specs.Rows.{row}
@@ -13,6 +13,8 @@ use Rattle.ssim_program.specs.Receiving.{any_refused, is_refused, is_repeated, i
 use Rattle.ssim_program.specs.Receiving.{printed_receipts, receipt_names, receipt_row, receipt_text}
 use Rattle.ssim_program.specs.Receiving.{refused_texts, total_text}
 use Rattle.ssim_program.specs.declared.command.receive.receipt.Receipt as code
+use Rattle.ssim_program.specs.declared.command.receive.receipt.Printed.{Printed}
+use Rattle.ssim_program.specs.declared.command.receive.receipt.Printed.TheVariants as form
 use Rattle.ssim_program.specs.declared.command.receive.receipt.Receipts.{Receipts}
 use Rattle.ssim_program.specs.declared.command.receive.receipt.Receipt.TheVariants as receipt
 
@@ -35,10 +37,20 @@ abbrev pub printed_after : Bool → ℕ → ℕ → ℕ → List ℕ
 printed_after csv taken repeated refused =
     if csv then [] else line (total_text taken repeated refused)
 
+-- whether rows are printed, and no lines
+abbrev pub is_csv : Printed → Bool
+is_csv (form.Rows rows) = true
+is_csv (form.Lines lines) = false
+
+-- the rows or the lines that are printed
+abbrev pub text_of : Printed → List ℕ
+text_of (form.Rows rows) = rows
+text_of (form.Lines lines) = lines.items
+
 -- what is printed, as rows or as lines, and kept of these receipts
 pub record AreReceipts (csv : Bool) (all : Receipts) (receipts : List Receipt) : Type 0 where
-  pub form : all.csv ≡ csv
-  pub lines : all.lines.items ≡ printed_before csv ++ flat_map (printed_receipt csv) receipts
+  pub form : is_csv all.printed ≡ csv
+  pub lines : text_of all.printed ≡ printed_before csv ++ flat_map (printed_receipt csv) receipts
   pub texts : all.texts.items ≡ refused_texts receipts
   pub taken : all.counts.taken ≡ count_by is_taken receipts
   pub repeated : all.counts.repeated ≡ count_by is_repeated receipts

@@ -33,6 +33,7 @@ use crate::timetable_file::{carrier_of, open_timetable};
 use ssim_board::{Board, MovementKind, board_lines, movement_names, of_kind, push_movements};
 use ssim_command_line::{BoardForm, Direction};
 use ssim_desk::Holdings;
+use ssim_listing::CsvRows;
 use ssim_schedule::FlightPieces;
 use ssim_values::{Airline, Day, Fault, Memory, Station};
 use ssim_words::typed_station;
@@ -161,13 +162,13 @@ fn rows_of_dates(
             flights,
         )?;
     }
-    Ok(rows)
+    rows.into_bytes()
 }
 
 /// Adds the rows of one date.
 fn push_date(
     alloc: Global,
-    rows: &mut Vec<u8>,
+    rows: &mut CsvRows,
     only: Option<Direction>,
     airline: Airline,
     board: &Board,
@@ -176,7 +177,7 @@ fn push_date(
     ensures { OnOk result ((days near : FlightNumber → Days)
         → flights.now ≡ divided_flights near
         → AgreeBetween (first_date board.now) (last_date board.now) near days
-        → rows.new.items ≡ rows.old.items ++ date_rows only airline days board.now) }
+        → rows.new ≡ rows.old ++ date_rows only airline days board.now) }
 {
     let movements = board.movements(alloc, flights)?;
     let shown = of_kind(movements, kind_of(only));

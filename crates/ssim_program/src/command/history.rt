@@ -18,6 +18,7 @@ use crate::refusal::Refusal;
 use crate::store::Store;
 use crate::timetable_file::open_shown;
 use ssim_desk::Holdings;
+use ssim_listing::CsvRows;
 use ssim_values::{Airline, Day, Designator, Flight, Memory};
 use std::alloc::Global;
 
@@ -76,8 +77,8 @@ fn rows_of(
     ensures { IfOk result (λ rows. rows.items ≡ history_csv airline
         (itinerary desk.now.base.records) (steps_on desk.now) day flights.now) }
 {
-    let mut rows = Vec::new(alloc);
-    push_names(alloc, &mut rows)?;
+    let mut rows = CsvRows::new(alloc);
+    push_names(&mut rows)?;
     for flight in flights {
         let designator = Designator {
             airline,
@@ -86,7 +87,7 @@ fn rows_of(
         let history = desk.history(flight, day)?;
         push_history(alloc, &mut rows, designator, day, &history)?;
     }
-    Ok(rows)
+    rows.into_bytes()
 }
 
 /// What each sub-message did with each of the flights on a date.

@@ -6,5 +6,5 @@ use Rattle.ssim_board.proofs.rows.movement_names.Goals as goal
 
 pub returns : goal.returns
 returns c =
-    c.in_ok-push_row.ensures
-    ∙ ap (λ (bytes : List ℕ). bytes ++ row movement_names) c.new-names.ensures.items
+    c.in_ok-push.ensures
+    ∙ ap (λ (bytes : List ℕ). bytes ++ row movement_names) c.new-rows.ensures

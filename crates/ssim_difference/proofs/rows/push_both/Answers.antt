@@ -16,14 +16,14 @@ pub returns-then-same : goal.returns-then-same
 returns-then-same c =
     on_ok_weaker c.push_side.result
     (λ added. added
-    ∙ ap (chosen (fields_of c.args.head.now) c.args.rows.now.items c.args.old.now c.args.new.now)
+    ∙ ap (chosen (fields_of c.args.head.now) c.args.rows.now c.args.old.now c.args.new.now)
     (sym c.if-same.true ∙ c.same.ensures))
     c.push_side.ensures
 
 pub returns : goal.returns
 returns c =
     let head = fields_of c.args.head.now in
-    let rows = c.args.rows.now.items in
+    let rows = c.args.rows.now in
     on_ok_weaker c.push_side-3.result
     (λ added.
     joined rows (side_row head (codes "old") c.args.old.now) (side_row head (codes "new") c.args.new.now)

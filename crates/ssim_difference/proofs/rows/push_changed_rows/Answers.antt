@@ -13,15 +13,15 @@ all_sequences = refl
 pub returns : goal.returns
 returns c =
     let head = c.args.head in
-    let rows = c.args.rows.now.items in
+    let rows = c.args.rows.now in
     let old = c.args.old.now in
     let new = c.args.new.now in
     let named : List ℕ → List (List ℕ) =
     λ change. head.name.now ∷ head.first.now ∷ head.last.now ∷ head.days.now ∷ change ∷ [] in
-    on_ok_weaker c.push_range.result
+    on_ok_weaker c.put_range.result
     (λ added. added
     ∙ ap (λ (ns : List ℕ). rows ++ flat_map (sequence_rows (named head.change.now) old new) ns)
     all_sequences
     ∙ ap (λ (change : List ℕ). rows ++ flat_map (sequence_rows (named change) old new) sequences)
     c.requires)
-    c.push_range.ensures
+    c.put_range.ensures

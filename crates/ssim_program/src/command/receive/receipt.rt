@@ -1,13 +1,13 @@
 //! What became of the texts of mailbox files, the lines that say so, and the refused texts.
 
-ghost use Rattle.std.specs.Prelude.{◌≡◌, ◌<◌, ◌+◌, ◌^◌, [], ◌++◌, IfOk, OnOk, Some};
+ghost use Rattle.std.specs.Prelude.{◌≡◌, ◌+◌, [], ◌++◌, IfOk, OnOk, Some};
 ghost use Rattle.std.specs.Prelude.{if◌then◌else◌};
 ghost use Rattle.ssim_base.specs.Export.{line};
 ghost use Rattle.ssim_program.specs.Receiving.{beginning_text, is_refused, is_repeated, is_taken};
 ghost use Rattle.ssim_program.specs.Receiving.{receipt_text, refused_text, total_text};
 ghost use Rattle.ssim_program.specs.internal.Receive.{AddsOne, AreReceipts, HasRefused, HaveLines};
-ghost use Rattle.ssim_program.specs.internal.Receive.{printed_after, printed_before, printed_receipt};
-ghost use Rattle.ssim_program.specs.internal.Receive.{receipt_of};
+ghost use Rattle.ssim_program.specs.internal.Receive.{is_csv, printed_after, printed_before};
+ghost use Rattle.ssim_program.specs.internal.Receive.{printed_receipt, receipt_of, text_of};
 
 use crate::command::receive::receipt_rows::{push_names, push_receipt};
 use crate::command::take::printed;
@@ -17,6 +17,7 @@ use crate::print::refusal_line::{RefusalLine, RefusedAt};
 use crate::refusal::Refusal;
 use itoa::Buffer;
 use ssim_desk::{DeskFault, Took};
+use ssim_listing::CsvRows;
 use ssim_mailbox::Text;
 use ssim_text::Reference;
 use ssim_values::Memory;
@@ -153,50 +154,62 @@ impl fmt::Display for Counts {
     }
 }
 
-/// A count with one more, if there is one more, as far as numbers go.
-fn counted(count: usize, is: bool) -> usize
-    ensures { count + 1 < 2 ^ 64 → result ≡ count + (if is then 1 else 0) }
+/// A count with one more, if there is one more. A count that is no `usize` is out of memory.
+fn counted(count: usize, is: bool) -> Result<usize, Memory>
+    ensures { IfOk result (λ sum. sum ≡ count + (if is then 1 else 0)) }
 {
-    count.saturating_add(is as usize)
-}
-
-/// What is printed before all receipts: the row of names of CSV, or nothing.
-fn begun(alloc: Global, csv: bool) -> Result<Vec<u8>, Memory>
-    ensures { IfOk result (λ lines. lines.items ≡ printed_before csv) }
-{
-    let mut lines = Vec::new(alloc);
-    if csv {
-        push_names(alloc, &mut lines)?;
-    }
-    Ok(lines)
-}
-
-/// Adds the row or the line of a receipt.
-fn push_printed(
-    alloc: Global,
-    lines: &mut Vec<u8>,
-    csv: bool,
-    receipt: &Receipt,
-) -> Result<(), Memory>
-    ensures { OnOk result
-        (lines.new.items ≡ lines.old.items ++ printed_receipt csv (receipt_of receipt.now)) }
-{
-    if csv {
-        push_receipt(alloc, lines, receipt)
-    } else {
-        push_line(alloc, lines, receipt)
+    match count.checked_add(is as usize) {
+        Some(sum) => Ok(sum),
+        None => Err(Memory),
     }
 }
 
-/// Adds the line that counts the receipts, unless rows are printed.
-fn push_counts(lines: &mut Vec<u8>, csv: bool, counts: &Counts) -> Result<(), Memory>
-    ensures { OnOk result (lines.new.items ≡ lines.old.items
-        ++ printed_after csv counts.now.taken counts.now.repeated counts.now.refused) }
-{
-    if csv {
-        return Ok(());
+/// What is printed of receipts: rows of CSV, or lines.
+#[derive(Drop)]
+enum Printed {
+    Rows(CsvRows),
+    Lines(Vec<u8>),
+}
+
+impl Printed {
+    /// What is printed before all receipts: the row of names of CSV, or nothing.
+    fn new(alloc: Global, csv: bool) -> Result<Printed, Memory>
+        ensures form { IfOk result (λ printed. is_csv printed ≡ csv) }
+        ensures text { IfOk result (λ printed. text_of printed ≡ printed_before csv) }
+    {
+        if !csv {
+            return Ok(Printed::Lines(Vec::new(alloc)));
+        }
+        let mut rows = CsvRows::new(alloc);
+        push_names(&mut rows)?;
+        Ok(Printed::Rows(rows))
     }
-    add_line(lines, counts)
+
+    /// Adds the row or the line of a receipt.
+    fn push(&mut self, alloc: Global, receipt: &Receipt) -> Result<(), Memory>
+        ensures form { is_csv self.new ≡ is_csv self.old }
+        ensures text { OnOk result (text_of self.new
+            ≡ text_of self.old ++ printed_receipt (is_csv self.old) (receipt_of receipt.now)) }
+    {
+        match self {
+            Printed::Rows(rows) => push_receipt(alloc, rows, receipt),
+            Printed::Lines(lines) => push_line(alloc, lines, receipt),
+        }
+    }
+
+    /// The rows; or the lines, and the one that counts the receipts.
+    fn finish(self, counts: &Counts) -> Result<Vec<u8>, Memory>
+        ensures { IfOk result (λ lines. lines.items ≡ text_of self ++ printed_after (is_csv self)
+            counts.now.taken counts.now.repeated counts.now.refused) }
+    {
+        match self {
+            Printed::Rows(rows) => rows.into_bytes(),
+            Printed::Lines(mut lines) => {
+                add_line(&mut lines, counts)?;
+                Ok(lines)
+            }
+        }
+    }
 }
 
 // ---- the refused texts
@@ -230,10 +243,8 @@ fn push_refused(texts: &mut Vec<u8>, receipt: Receipt) -> Result<(), Memory>
 /// What is printed and kept of the receipts so far. The receipts themselves are not kept.
 #[derive(Drop)]
 pub(crate) struct Receipts {
-    /// Whether each has a row of CSV, and no line.
-    csv: bool,
     /// The row of names and the row of each; or the line of each.
-    lines: Vec<u8>,
+    printed: Printed,
     /// The refused texts, each of which NNNN ends.
     texts: Vec<u8>,
     /// How many were taken, repeated and refused.
@@ -245,10 +256,9 @@ impl Receipts {
     pub(crate) fn new(alloc: Global, csv: bool) -> Result<Receipts, Memory>
         ensures { IfOk result (λ receipts. AreReceipts csv receipts []) }
     {
-        let lines = begun(alloc, csv)?;
+        let printed = Printed::new(alloc, csv)?;
         Ok(Receipts {
-            csv,
-            lines,
+            printed,
             texts: Vec::new(alloc),
             counts: Counts {
                 taken: 0,
@@ -268,11 +278,11 @@ impl Receipts {
             refused,
         } = self.counts;
         self.counts = Counts {
-            taken: counted(taken, receipt.is_taken()),
-            repeated: counted(repeated, receipt.is_repeated()),
-            refused: counted(refused, receipt.is_refused()),
+            taken: counted(taken, receipt.is_taken())?,
+            repeated: counted(repeated, receipt.is_repeated())?,
+            refused: counted(refused, receipt.is_refused())?,
         };
-        push_printed(alloc, &mut self.lines, self.csv, &receipt)?;
+        self.printed.push(alloc, &receipt)?;
         push_refused(&mut self.texts, receipt)
     }
 
@@ -287,8 +297,7 @@ impl Receipts {
     pub(crate) fn finish(self) -> Result<(Vec<u8>, Vec<u8>), Memory>
         ensures { IfOk result (λ r. HaveLines self r.0.items r.1.items) }
     {
-        let mut lines = self.lines;
-        push_counts(&mut lines, self.csv, &self.counts)?;
+        let lines = self.printed.finish(&self.counts)?;
         Ok((lines, self.texts))
     }
 }

@@ -18,7 +18,7 @@ use crate::print::refusal_line::PlaceInFile;
 use crate::refusal::Refusal;
 use itoa::Buffer;
 use ssim_desk::{DeskFault, Took};
-use ssim_listing::push_row;
+use ssim_listing::CsvRows;
 use ssim_text::Reference;
 use ssim_values::Memory;
 use std::alloc::Global;
@@ -35,20 +35,20 @@ const NAMES: [&[u8]; 7] = [
 ];
 
 /// Adds the row of names.
-pub(crate) fn push_names(alloc: Global, rows: &mut Vec<u8>) -> Result<(), Memory>
-    ensures { OnOk result (rows.new.items ≡ rows.old.items ++ row receipt_names) }
+pub(crate) fn push_names(rows: &mut CsvRows) -> Result<(), Memory>
+    ensures { OnOk result (rows.new ≡ rows.old ++ row receipt_names) }
 {
-    push_row(alloc, rows, &NAMES)
+    rows.push(&NAMES, &[])
 }
 
 /// Adds the row of a receipt.
 pub(crate) fn push_receipt(
     alloc: Global,
-    rows: &mut Vec<u8>,
+    rows: &mut CsvRows,
     receipt: &Receipt,
 ) -> Result<(), Memory>
     ensures { OnOk result
-        (rows.new.items ≡ rows.old.items ++ receipt_row (receipt_of receipt.now)) }
+        (rows.new ≡ rows.old ++ receipt_row (receipt_of receipt.now)) }
 {
     match receipt {
         Receipt::Accepted {
@@ -77,13 +77,13 @@ fn word_of(took: Took) -> &'static str
 /// Adds the row of a text that the desk took, or whose message it held already.
 fn push_accepted(
     alloc: Global,
-    rows: &mut Vec<u8>,
+    rows: &mut CsvRows,
     file: &str,
     line: usize,
     took: Took,
     reference: &Reference,
 ) -> Result<(), Memory>
-    ensures { OnOk result (rows.new.items ≡ rows.old.items ++ row (printed_name file.now
+    ensures { OnOk result (rows.new ≡ rows.old ++ row (printed_name file.now
         ∷ decimal line ∷ took_word took ∷ printed_reference reference.now ∷ [] ∷ [] ∷ [] ∷ [])) }
 {
     let name = printed_name(alloc, file)?;
@@ -93,19 +93,19 @@ fn push_accepted(
     let word = word_of(took).as_bytes();
     let none = *b"";
     let fields: [&[u8]; 7] = [name.as_bytes(), line, word, &reference, &none, &none, &none];
-    push_row(alloc, rows, &fields)
+    rows.push(&fields, &[])
 }
 
 /// Adds the row of a text that the desk refused.
 fn push_refused(
     alloc: Global,
-    rows: &mut Vec<u8>,
+    rows: &mut CsvRows,
     file: &str,
     first: usize,
     fault: DeskFault,
 ) -> Result<(), Memory>
     ensures { OnOk result (let why = refused.Desk fault in
-        rows.new.items ≡ rows.old.items ++ row (printed_name file.now ∷ decimal first
+        rows.new ≡ rows.old ++ row (printed_name file.now ∷ decimal first
         ∷ codes "refused" ∷ [] ∷ decimal (refusal_number why) ∷ refusal_name why
         ∷ place_text (place_in_file first (refusal_place why)) ∷ [])) }
 {
@@ -131,12 +131,12 @@ fn push_refused(
         refusal.name().as_bytes(),
         &place,
     ];
-    push_row(alloc, rows, &fields)
+    rows.push(&fields, &[])
 }
 
 /// Adds the row of a file that cannot be read.
-fn push_unread(alloc: Global, rows: &mut Vec<u8>, file: &str) -> Result<(), Memory>
-    ensures { OnOk result (rows.new.items ≡ rows.old.items ++ row (printed_name file.now
+fn push_unread(alloc: Global, rows: &mut CsvRows, file: &str) -> Result<(), Memory>
+    ensures { OnOk result (rows.new ≡ rows.old ++ row (printed_name file.now
         ∷ [] ∷ codes "refused" ∷ [] ∷ codes "91" ∷ codes "File" ∷ [] ∷ [])) }
 {
     let name = printed_name(alloc, file)?;
@@ -145,5 +145,5 @@ fn push_unread(alloc: Global, rows: &mut Vec<u8>, file: &str) -> Result<(), Memo
     let number = *b"91";
     let fault = *b"File";
     let fields: [&[u8]; 7] = [name.as_bytes(), &none, &word, &none, &number, &fault, &none];
-    push_row(alloc, rows, &fields)
+    rows.push(&fields, &[])
 }

@@ -44,9 +44,9 @@ loop-number-preserved c =
           let one = c.in_ok-push_date.ensures days near e
           (subst (λ (b : Board). AgreeBetween (first_date b) (last_date b) near days) (sym here)
           (near_date board near days number end begun before c.requires agree)) in
-          rows_next f (row movement_names) board.day number c.loop-number.rows.items
-          c.push_date.new.rows.items begun (c.loop-number.invariant.so_far days near e agree)
-          (one ∙ ap (λ (b : Board). c.loop-number.rows.items
+          rows_next f (row movement_names) board.day number c.loop-number.rows
+          c.push_date.new.rows begun (c.loop-number.invariant.so_far days near e agree)
+          (one ∙ ap (λ (b : Board). c.loop-number.rows
           ++ date_rows c.args.only c.args.airline days b) here);
     }
 

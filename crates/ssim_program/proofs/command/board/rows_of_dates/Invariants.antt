@@ -19,7 +19,7 @@ invariant-loop-number l =
       within : l.number - from ≤ l.end - from;
       so_far : (days near : FlightNumber → Days) → l.flights ≡ divided_flights near
           → AgreeBetween (first_date l.board) (last_date (board_on l.board (l.end - 1))) near days
-          → l.rows.items ≡ row movement_names
+          → l.rows ≡ row movement_names
           ++ flat_map (λ day. date_rows l.only l.airline days (board_on l.board day))
           (range_with_len from (l.number - from));
     }

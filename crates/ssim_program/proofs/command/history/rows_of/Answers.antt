@@ -24,7 +24,7 @@ loop-flight-preserved c =
     take_more flights i flight c.loop-flight-test.true
     ∙ ap (λ (f : FlightNumber). take i flights ++ f ∷ []) (sym c.flight-item.is) in
     c.in_ok-push_history.ensures
-    ∙ ap₂ (λ (first : Legs) (steps : List DateStep). c.loop-flight.rows.items
+    ∙ ap₂ (λ (first : Legs) (steps : List DateStep). c.loop-flight.rows
     ++ history_rows (record { airline = airline; flight = flight }) day first steps)
     c.in_ok-history.ensures.first c.in_ok-history.ensures.steps
     ∙ ap (λ (old : List ℕ). old ++ rows flight) c.loop-flight.invariant

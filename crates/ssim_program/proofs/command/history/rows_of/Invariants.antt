@@ -9,6 +9,6 @@ use Rattle.ssim_program.proofs.command.history.rows_of.Given as goal
 
 abbrev pub invariant-loop-flight : goal.invariant-loop-flight
 invariant-loop-flight l =
-    l.rows.items ≡ row history_names
+    l.rows ≡ row history_names
     ++ flat_map (history_rows_on l.airline (itinerary l.desk.base.records) (steps_on l.desk) l.day)
     (take l.flight-index l.flights)

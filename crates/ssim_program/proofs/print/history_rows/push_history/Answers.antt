@@ -11,7 +11,7 @@ use Rattle.ssim_program.proofs.print.history_rows.push_history.Goals as goal
 
 pub returns : goal.returns
 returns c =
-    let rows = c.args.rows.now.items in
+    let rows = c.args.rows.now in
     let first = c.args.history.now.first in
     let steps = c.args.history.now.steps.items in
     let head : c.as_slice.result.now ∷ c.iso_date-date.result ∷ []
@@ -20,7 +20,7 @@ returns c =
     (c.as_slice.ensures.value ∙ c.write-name.ensures.value) c.iso_date-date.ensures in
     let text : List (List ℕ) → Legs → List DateStep → List ℕ =
     λ head legs steps. (rows ++ first_rows head legs) ++ flat_map (step_rows head) steps in
-    on_ok_weaker c.push_each.result
+    on_ok_weaker c.put_each.result
     (λ added. added
     ∙ ap (λ (old : List ℕ). old ++ flat_map (step_rows (c.as_slice.result.now
     ∷ c.iso_date-date.result ∷ [])) c.deref.result.now) c.in_ok-push_first.ensures
@@ -29,4 +29,4 @@ returns c =
     ∙ ap (λ (head : List (List ℕ)). text head first steps) head
     ∙ append_assoc rows (first_rows (designator_text c.args.designator ∷ iso_date c.args.day ∷ []) first)
     (flat_map (step_rows (designator_text c.args.designator ∷ iso_date c.args.day ∷ [])) steps))
-    c.push_each.ensures
+    c.put_each.ensures
