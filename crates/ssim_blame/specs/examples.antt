@@ -1,0 +1,2 @@
+-- Computed examples.
+pub mod Makers
