@@ -3,7 +3,7 @@
 
 - `info` and `stations` beside `list`; `start --notes` beside `start`, with the table that `stations` prints.
 - `list`, `calendar` and `diff` with filters beside the same without, the other filters than those of `select` in parts.py.
-- Each command with `--csv` beside the same without.
+- Each command with `--csv` beside the same without; `blame` beside `show` of the flight.
 
 The data sets have 90,003 records: one record a date, and weekly strips (make/shapes.py). The other side of `diff` has another aircraft type on
 a tenth of the lines. A desk over the first holds 1,500 texts. A line has the ratio of the instructions of two whole runs, by callgrind, and
@@ -68,6 +68,7 @@ def count_desk(counts, name):
     lines = ["texts", "held.desk"], ["findings", "held.desk"], ["history", "held.desk", "LX17", DATE], ["receive", "held.desk", "c.desk", "mail"]
     for words in lines:
         beside(counts, "a desk", [words[0], "--csv", *words[1:]], words, 1.2)
+    beside(counts, "a desk", ["blame", "held.desk", "LX17"], ["show", "held.desk", "LX17", DATE], 1.2)
 
 
 def main():

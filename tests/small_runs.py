@@ -57,6 +57,8 @@ COMMANDS = [
     ("show of flights", ["show", "desk", "LX544", "LX540", "LX544", "01JUL25"], None),
     ("history", ["history", "desk", "LX544", "01JUL25"], None),
     ("history of flights", ["history", "desk", "LX540", "LX544", "01JUL25"], None),
+    ("blame", ["blame", "desk", "LX544", "LX540"], None),
+    ("blame --csv", ["blame", "--csv", "desk", "LX544", "LX540"], None),
     ("board", ["board", "desk", "ZRH", "01JUL25"], None),
     ("board of dates", ["board", "--days", "3", "--departures", "desk", "ZRH", "01JUL25"], None),
     ("list", ["list", "desk", "LX544", "LX540"], None),

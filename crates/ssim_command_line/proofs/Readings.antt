@@ -17,7 +17,7 @@ use Rattle.ssim_command_line.specs.Line.{findings_form_of, flag, form_of}
 use Rattle.ssim_command_line.specs.Line.{is_given, optional, problems_form_of, receive_form_of, receive_words}
 use Rattle.ssim_command_line.specs.Line.{several_texts, span_of, span_words}
 use Rattle.ssim_command_line.specs.Line.{formed_two_and_any, two_values, values_in}
-use Rattle.ssim_command_line.specs.Line.{Board, Calendar, Check, Diff, Explain, Export, Findings, History, Listing}
+use Rattle.ssim_command_line.specs.Line.{Blame, Board, Calendar, Check, Diff, Explain, Export, Findings, History, Listing}
 use Rattle.ssim_command_line.specs.Line.{Merge, Page, Problems, Publish, Receive, Rehearse, Select, Show, Start}
 use Rattle.ssim_command_line.specs.Line.{Carry, Convert, Info, Split, Stations, Take, Texts, Tidy, Withdraw, mode_and_two}
 use Rattle.ssim_command_line.specs.declared.board_form.BoardForm.{BoardForm}
@@ -283,6 +283,10 @@ abbrev pub history_row : Command
 history_row = by (codes "history") (two_values ++ several_texts ∷ flag (codes "csv") ∷ [])
     (λ rows. two_and_texts (History (is_given (codes "csv") rows)))
 
+abbrev pub blame_row : Command
+blame_row = by (codes "blame") (one_value ++ several_texts ∷ flag (codes "csv") ∷ [])
+    (λ rows. one_and_several (Blame (is_given (codes "csv") rows)))
+
 abbrev pub board_row : Command
 board_row = by (codes "board") (three_values ++ board_words)
     (λ rows. formed_three Board (board_form_of rows))
@@ -359,6 +363,12 @@ history_read = several_reader history_row.name history_row.words
     (λ rows. History (is_given (codes "csv") rows))
     (λ a b. record { enter = λ t rest. refl; first = λ t u. refl; later = λ x seen t u. refl })
 
+pub blame_read : IsReader blame_row
+unfolding clap_on_literals
+blame_read = some_reader blame_row.name blame_row.words
+    (λ rows. Blame (is_given (codes "csv") rows))
+    (λ a. record { enter = λ t rest. refl; first = λ t u. refl; later = λ x seen t u. refl })
+
 pub list_read : IsReader list_row
 unfolding clap_on_literals
 list_read = texts_reader list_row.name list_row.words (λ rows. Listing (form_of rows) (choice_of rows))
@@ -419,6 +429,7 @@ readers =
     ∷ with_several (codes "withdraw") Withdraw
     ∷ with_several (codes "show") Show
     ∷ record { row = history_row; reads = history_read }
+    ∷ record { row = blame_row; reads = blame_read }
     ∷ record { row = list_row; reads = list_read }
     ∷ record { row = board_row; reads = board_read }
     ∷ record { row = calendar_row; reads = calendar_read }

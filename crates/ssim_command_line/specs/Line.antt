@@ -53,6 +53,7 @@ pub data Line : Type 0 where
   Withdraw : (desk out : Text) (references : List Text) → Line
   Show : (file flight : Text) (words : List Text) → Line
   History : (csv : Bool) (file flight : Text) (words : List Text) → Line
+  Blame : (csv : Bool) (file : Text) (flights : List Text) → Line
   Board : (form : BoardForm) (file station date : Text) → Line
   Listing : (form : ListForm) (choice : ChoiceTexts) (file : Text) (flights : List Text) → Line
   Calendar : (choice : ChoiceTexts) (file : Text) (flights : List Text) → Line
@@ -106,6 +107,8 @@ line_of (request.Show file flight words) =
     Show file.now flight.now (map (λ t. t.now) words.items)
 line_of (request.History csv file flight words) =
     History csv file.now flight.now (map (λ t. t.now) words.items)
+line_of (request.Blame csv file flights) =
+    Blame csv file.now (map (λ t. t.now) flights.items)
 line_of (request.Board form file station date) = Board form file.now station.now date.now
 line_of (request.List form choice file flights) =
     Listing form (choice_line choice) file.now (map (λ t. t.now) flights.items)
@@ -396,6 +399,11 @@ commands =
       name = codes "history";
       words = two_values ++ several_texts ∷ flag (codes "csv") ∷ [];
       make = λ rows. two_and_texts (History (is_given (codes "csv") rows));
+    }
+    ∷ record {
+      name = codes "blame";
+      words = one_value ++ several_texts ∷ flag (codes "csv") ∷ [];
+      make = λ rows. one_and_several (Blame (is_given (codes "csv") rows));
     }
     ∷ record {
       name = codes "list";

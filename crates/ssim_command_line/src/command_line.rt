@@ -180,6 +180,12 @@ pub enum Request<'a> {
         flight: &'a str,
         words: Vec<&'a str>,
     },
+    /// Print which message of a desk acted last on each date of flights, by periods; or the data set.
+    Blame {
+        csv: bool,
+        file: &'a str,
+        flights: Vec<&'a str>,
+    },
     /// Print the departures and arrivals of a desk or a data set at a station on a local date, or on
     /// several dates.
     Board {

@@ -21,6 +21,7 @@ pub(crate) enum CommandName {
     Withdraw,
     Show,
     History,
+    Blame,
     List,
     Board,
     Calendar,

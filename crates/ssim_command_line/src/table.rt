@@ -57,7 +57,7 @@ The commands by what they are for:
   each day:   receive, take, board, show, list, calendar, page, diff, history
   a desk:     start, texts, findings, withdraw, merge, carry, export, publish
   a data set: check, problems, tidy, select, convert, split
-  also:       info, stations, explain, rehearse
+  also:       blame, info, stations, explain, rehearse
 
 For each file that is read, - is standard input.
 Exit status: 0 if the command was done; 1 if it was refused, with a line
@@ -261,6 +261,22 @@ The date is the last word. Between two flights is an empty line. With --csv it
 prints rows, one for each leg, or without a leg.
 Exit status: 0; 1 if FILE is neither a desk file nor a data set (62), FLIGHT is
 no designator (6), DATE is no date (1), or the airline is another one (41)."
+        "blame" [First("FILE"), Several("FLIGHT"), Flag("csv")]
+            => Blame(file; flights+; csv: csv_of)
+        "Print which message acted last on each date of flights"
+        "\
+Example:
+  ssimdesk blame fdh.desk Z7401
+prints for each period the flight, the first and the last date, the days of
+operation, and the last sub-message that acted on these dates: its reference,
+its number and its action, or 'data set' if none did:
+  Z7401 30MAR27 11JUN27 .2..5.. data set
+  Z7401 15JUN27 15JUN27 .2..... ASM 11JUN27 00001 001 1 NEW
+  Z7401 18JUN27 29OCT27 .2..5.. data set
+After a 'CNL' the flight does not fly. The line of a flight without dates is
+'Z7999 no flight'. With --csv it prints a row for each period.
+Exit status: 0, also if there is no flight; 1 if FILE is neither a desk file nor
+a data set (62), a word is no flight (6), or the airline is another one (41)."
         "list" [First("FILE"), Any("FLIGHT"), Flag("csv"), Flag("dates"), Valued("from", "DATE"),
             Valued("to", "DATE"), Repeated("station", "STATION"), Repeated("aircraft", "TYPE")]
             => List(file; flights; form: form_of; choice = choice_of)

@@ -247,6 +247,8 @@ module _ (old new : Files) (acts done later : List Act) (split : acts ≡ done +
       looks _ old new acts done later split left (ap kept_by are)
   of_line (line.History csv desk flight words) (bytes, is, are) =
       looks _ old new acts done later split left (ap kept_by are)
+  of_line (line.Blame csv desk flights) (bytes, is, are) =
+      looks _ old new acts done later split left (ap kept_by are)
   of_line (line.Board form file station date) (bytes, is, are) =
       looks _ old new acts done later split left (ap kept_by are)
   of_line (line.Listing form words file flights) (bytes, is, are) =

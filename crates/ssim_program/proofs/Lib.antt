@@ -43,6 +43,7 @@ pub mod SameReading
 pub mod EqualFiles
 pub mod EqualDataSets
 pub mod EqualParts
+pub mod EqualBlames
 pub mod EqualChanges
 pub mod CarriedFiles
 pub mod ChoiceSteps

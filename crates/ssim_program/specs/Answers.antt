@@ -19,6 +19,9 @@ use Rattle.ssim_desk.specs.DateSteps.{steps_on}
 use Rattle.ssim_desk.specs.Desk.{days_of_desk, finding_lines, timetable_of}
 use Rattle.ssim_difference.specs.ChosenDates.{chosen_side}
 use Rattle.ssim_difference.specs.Differences as differing
+use Rattle.ssim_blame.specs.Lines.{blame_lines}
+use Rattle.ssim_blame.specs.Makers.{blamed_among}
+use Rattle.ssim_blame.specs.Rows.{blame_rows}
 use Rattle.ssim_outbox.specs.Comparable.{RefusesCarriers}
 use Rattle.ssim_outbox.specs.Publication.{Publishes, RefusesPublication}
 use Rattle.ssim_outbox.specs.declared.fault.OutboxFault.{OutboxFault}
@@ -29,9 +32,9 @@ use Rattle.ssim_overview.specs.SaidRows.{said_rows}
 use Rattle.ssim_command_line.specs.Line.{Line, Text, Check, Problems, Tidy, Start, Take, Merge}
 use Rattle.ssim_command_line.specs.Line.{Withdraw}
 use Rattle.ssim_command_line.specs.Line.{Carry, ChoiceTexts, SpanTexts}
-use Rattle.ssim_command_line.specs.Line.{Receive, Texts, Show, History, Calendar, Findings, Export}
-use Rattle.ssim_command_line.specs.Line.{Rehearse, Explain, Page, Board, Diff, Publish, Listing}
-use Rattle.ssim_command_line.specs.Line.{Convert, Info, Select, Split, Stations}
+use Rattle.ssim_command_line.specs.Line.{Blame, Receive, Texts, Show, History, Calendar, Findings}
+use Rattle.ssim_command_line.specs.Line.{Export, Rehearse, Explain, Page, Board, Diff, Publish}
+use Rattle.ssim_command_line.specs.Line.{Convert, Info, Listing, Select, Split, Stations}
 use Rattle.ssim_command_line.specs.declared.board_form.BoardForm.{BoardForm}
 use Rattle.ssim_command_line.specs.declared.command_line.FindingsForm.{FindingsForm}
 use Rattle.ssim_command_line.specs.declared.command_line.DiffForm.{DiffForm}
@@ -49,7 +52,7 @@ use Rattle.ssim_program.specs.Explained.{Explains, RefusesExplain}
 use Rattle.ssim_program.specs.Files.{Files}
 use Rattle.ssim_program.specs.Made.{AreLinesOn, base_in, data_set_in, problem_lines, problems_in}
 use Rattle.ssim_program.specs.Made.{has_problem, problem_rows}
-use Rattle.ssim_program.specs.Messages.{flights_on, printed_messages}
+use Rattle.ssim_program.specs.Messages.{flights_named, flights_on, printed_messages}
 use Rattle.ssim_program.specs.Places.{place_in}
 use Rattle.ssim_program.specs.Splitting.{split}
 use Rattle.ssim_program.specs.Spans.{dates_alone, has_end, lines_found}
@@ -205,6 +208,15 @@ history files csv file flight words = do
   named ← flights_on (airline_of desk.base.records) flight words
   Gives (printed_history csv (airline_of desk.base.records) (itinerary desk.base.records)
       (steps_on desk) named.1 (in_order named.0))
+
+-- which message acted last on each date of flights, by number and then by suffix, each once: by
+-- periods, as lines or as CSV
+abbrev pub blame : Option Files → Bool → Text → List Text → Answer (List ℕ)
+blame files csv file words = do
+  desk ← shown_in files file
+  flights ← flights_named (airline_of desk.base.records) words
+  Gives (if csv then blame_rows (airline_of desk.base.records) (blamed_among desk flights)
+      else blame_lines (airline_of desk.base.records) (blamed_among desk flights))
 
 -- what each sub-message found on its dates, or on those of a span: of all flights, or of those that
 -- are named; all, or those alone that did not act on a date; as lines or as CSV
@@ -395,6 +407,7 @@ answers (Withdraw file out references) files = withdraw files file out reference
 answers (Texts csv span file flights) files = prints (texts files csv span file flights)
 answers (Show file flight words) files = prints (show files file flight words)
 answers (History csv file flight words) files = prints (history files csv file flight words)
+answers (Blame csv file flights) files = prints (blame files csv file flights)
 answers (Board form file station date) files = prints (board files form file station date)
 answers (Listing form words file flights) files = prints (list files form words file flights)
 answers (Calendar words file flights) files = prints (calendar files words file flights)

@@ -56,6 +56,15 @@ flights_on airline word words = do
   here ← Require (All (IsOf airline) flights) other_airline
   Gives (map (λ d. d.flight) flights, day)
 
+-- the flights of the airline that words name; a word that names no flight is refused before a flight
+-- of another airline
+abbrev pub flights_named : List ℕ → List Text → Answer (List FlightNumber)
+flights_named airline words = do
+  room ← Gives (tt {0})
+  flights ← OneOr (NameEach airline words) (refused.Value value_fault.BadDesignator)
+  here ← Require (All (IsOf airline) flights) other_airline
+  Gives (map (λ d. d.flight) flights)
+
 -- ---- the messages that are chosen by flights and a span of dates
 
 -- whether a sub-message is of a chosen flight and, if a span is given, has a chosen date

@@ -6,6 +6,7 @@ ghost use Rattle.ssim_program.specs.Again.{PrintsItself};
 ghost use Rattle.ssim_program.specs.Answers.{answers};
 ghost use Rattle.ssim_program.specs.internal.Program.{AreLines, IsReport, MadeItself, MakesOr};
 
+pub(crate) mod blame;
 pub(crate) mod board;
 pub(crate) mod calendar;
 pub(crate) mod carry;
@@ -152,6 +153,9 @@ pub(crate) fn make<'r, S: Store>(
             flight,
             words,
         } => lines(history::history(alloc, *csv, file, flight, words, store)),
+        Request::Blame { csv, file, flights } => {
+            lines(blame::blame(alloc, *csv, file, flights, store))
+        }
         Request::Board {
             form,
             file,

@@ -1,7 +1,7 @@
 //! What holds of the bytes that the commands write, and of desk files after any commands.
 
 ghost use Rattle.std.specs.Prelude.{Bool, List, None, Some};
-ghost use Rattle.ssim_command_line.specs.Line.{Board, Calendar, Carry, Check, ChoiceTexts, Diff};
+ghost use Rattle.ssim_command_line.specs.Line.{Blame, Board, Calendar, Carry, Check, ChoiceTexts, Diff};
 ghost use Rattle.ssim_command_line.specs.Line.{Convert, Export, Findings, Select, SpanTexts};
 ghost use Rattle.ssim_command_line.specs.Line.{History, Info, Listing, Page, Problems, Show, Text, Texts};
 ghost use Rattle.ssim_command_line.specs.Line.{Stations, Tidy, Withdraw};
@@ -98,15 +98,16 @@ pub fn equal_desk_files_do_the_same()
     no_two_desks_have_one_file();
 }
 
-/// Of two equal desk files, or of two equal data sets, `show`, `history`, `list`, `board`, `calendar`,
-/// `info`, `stations`, `page` and `select` do the same: they print the same bytes, or are refused for the same. So do
-/// `diff` and `page` of two pairs of equal files. `convert` keeps the same data set, and prints the
-/// same.
+/// Of two equal desk files, or of two equal data sets, `show`, `history`, `blame`, `list`, `board`,
+/// `calendar`, `info`, `stations`, `page` and `select` do the same: they print the same bytes, or are
+/// refused for the same. So do `diff` and `page` of two pairs of equal files. `convert` keeps the same
+/// data set, and prints the same.
 pub fn equal_timetables_do_the_same()
     ensures show { (flight : Text) (words : List Text)
         → DoesTheSame (λ file. Show file flight words) }
     ensures history { (csv : Bool) (flight : Text) (words : List Text)
         → DoesTheSame (λ file. History csv file flight words) }
+    ensures blame { (csv : Bool) (flights : List Text) → DoesTheSame (λ file. Blame csv file flights) }
     ensures board { (form : BoardForm) (station date : Text)
         → DoesTheSame (λ file. Board form file station date) }
     ensures list { (form : ListForm) (words : ChoiceTexts) (flights : List Text)

@@ -10,9 +10,10 @@ use Rattle.ssim_text.specs.Lines.{identifier_text}
 use Rattle.ssim_text.specs.Reference.{printed_reference}
 use Rattle.ssim_base.specs.Timetable.{Legs}
 use Rattle.ssim_desk.specs.declared.date_step.DateStep.{DateStep}
+use Rattle.ssim_blame.specs.Makers.{is_acted}
 use Rattle.ssim_listing.specs.Rows.{iso_date, leg_names, leg_row, no_leg_row, row}
 use Rattle.ssim_program.specs.print.Blocks.{blocks}
-use Rattle.ssim_program.specs.print.Shown.{history_on, is_acted, reason_word}
+use Rattle.ssim_program.specs.print.Shown.{history_on, reason_word}
 
 -- the names of the fields
 abbrev pub history_names : List (List ℕ)

@@ -1,5 +1,5 @@
 -- What a desk has, as it is printed: a flight on a date, and what its sub-messages found.
-use Rattle.std.specs.Prelude.{ℕ, Bool, true, false, not, ◌==◌, ◌&&◌, ◌||◌, if◌then◌else◌}
+use Rattle.std.specs.Prelude.{ℕ, Bool, not, ◌==◌, ◌&&◌, ◌||◌, if◌then◌else◌}
 use Rattle.std.specs.Prelude.{List, [], ◌∷◌, ◌++◌, codes}
 use Rattle.std.specs.Fmt.{decimal}
 use Rattle.std.specs.List.{flat_map}
@@ -17,6 +17,7 @@ use Rattle.ssim_schedule.specs.declared.finding.Reason.TheVariants.{Acted, Absen
 use Rattle.ssim_desk.specs.declared.date_step.DateStep.{DateStep}
 use Rattle.ssim_desk.specs.declared.finding_line.FindingLine.{FindingLine}
 use Rattle.ssim_parts.specs.Chosen.{Choosing, chooses_flight}
+use Rattle.ssim_blame.specs.Makers.{is_acted}
 use Rattle.ssim_listing.specs.LegText.{leg_text}
 use Rattle.ssim_listing.specs.Marks.{marked_line}
 use Rattle.ssim_command_line.specs.declared.command_line.FindingsForm.{FindingsForm}
@@ -47,11 +48,6 @@ shown_on airline timetable day flight =
 abbrev pub indented_lines : Legs → Legs → List ℕ
 indented_lines before [] = line (codes "  no flight")
 indented_lines before (leg ∷ legs) = flat_map (marked_line before) (leg ∷ legs)
-
--- whether a sub-message acted
-abbrev pub is_acted : Reason → Bool
-is_acted Acted = true
-is_acted _ = false
 
 -- what a sub-message found on a date
 abbrev pub reason_word : Reason → List ℕ

@@ -162,6 +162,17 @@ returns-in-History-clause-answer g c = let old = g.S.Store.files c.args.store.no
     c.history.result) c.deref-in-History.ensures.value c.history.ensures.answer)
     c.lines-in-History.ensures)
 
+pub returns-in-Blame-clause-answer : goal.returns-in-Blame-clause-answer
+returns-in-Blame-clause-answer g c = let old = g.S.Store.files c.args.store.now in
+    made_of _ _ _ _ _ c.in-Blame.is
+    (lines_of g.S.Hold.Hold.file old
+    (answer.blame old c.in-Blame.csv c.in-Blame.file.now
+    (map (λ t. t.now) c.in-Blame.flights.items)) c.blame.result c.lines-in-Blame.result
+    (subst (λ (words : List (Bor (List ℕ))). Answers
+    (answer.blame old c.in-Blame.csv c.in-Blame.file.now (map (λ t. t.now) words))
+    c.blame.result) c.deref-in-Blame.ensures.value c.blame.ensures.answer)
+    c.lines-in-Blame.ensures)
+
 pub returns-in-Board-clause-answer : goal.returns-in-Board-clause-answer
 returns-in-Board-clause-answer g c = let old = g.S.Store.files c.args.store.now in
     made_of _ _ _ _ _ c.in-Board.is

@@ -1,3 +1,4 @@
+use Rattle.ssim_program.proofs.EqualBlames.{blame_alike}
 use Rattle.ssim_program.proofs.EqualChanges.{diff_alike}
 use Rattle.ssim_program.proofs.EqualFiles.{board_alike, changed_page_alike}
 use Rattle.ssim_program.proofs.EqualFiles.{history_alike, info_alike, page_alike, show_alike}
@@ -14,6 +15,7 @@ returns c =
     record {
       show = show_alike frames one_base no_two;
       history = history_alike frames one_base no_two;
+      blame = blame_alike frames one_base no_two;
       board = board_alike frames one_base no_two;
       list = list_alike frames one_base no_two;
       calendar = calendar_alike frames one_base no_two;
