@@ -4,6 +4,7 @@
 - `info` and `stations` beside `list`; `start --notes` beside `start`, with the table that `stations` prints.
 - `list`, `calendar` and `diff` with filters beside the same without, the other filters than those of `select` in parts.py.
 - Each command with `--csv` beside the same without; `blame` beside `show` of the flight.
+- `take`, `receive` and `merge` with `--effects` beside these and `findings` of what they keep.
 
 The data sets have 90,003 records: one record a date, and weekly strips (make/shapes.py). The other side of `diff` has another aircraft type on
 a tenth of the lines. A desk over the first holds 1,500 texts. A line has the ratio of the instructions of two whole runs, by callgrind, and
@@ -71,6 +72,23 @@ def count_desk(counts, name):
     beside(counts, "a desk", ["blame", "held.desk", "LX17"], ["show", "held.desk", "LX17", DATE], 1.2)
 
 
+def count_effects(counts, name):
+    """What a change does, of a desk that holds half of the texts and is brought the others."""
+    texts, _ = write_texts(counts.folder, name, TEXTS)
+    counts.run("start", name, "none", "base.desk")
+    counts.run("take", "base.desk", "half.desk", *texts[::2])
+    counts.run("take", "base.desk", "other.desk", *texts[1::2])
+    with open(os.path.join(counts.folder, "mail"), "wb") as file:
+        for text in texts[1::2]:
+            with open(os.path.join(counts.folder, text), "rb") as one:
+                file.write(one.read() + b"NNNN\n")
+    counts.run("merge", "half.desk", "other.desk", "all.desk")
+    findings = counts.of("findings", "all.desk")
+    for words in ["take", "half.desk", "c.desk", *texts[1::2]], ["receive", "half.desk", "c.desk", "mail"], ["merge", "half.desk", "other.desk", "c.desk"]:
+        ratio = counts.of(words[0], "--effects", *words[1:]) / (counts.of(*words) + findings)
+        print(f"| a desk: `{words[0]} --effects`, beside `{words[0]}` and `findings` | {ratio:.2f} | 1.0 |", flush=True)
+
+
 def main():
     (program,), folder, _ = arguments(__doc__, 1)
     counts = Counts(program, folder)
@@ -79,6 +97,8 @@ def main():
     for title, name in names.items():
         count_timetables(counts, title, name)
     count_desk(counts, names["one record a date"])
+    for name in names.values():
+        count_effects(counts, name)
 
 
 if __name__ == "__main__":

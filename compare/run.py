@@ -1,7 +1,7 @@
 #!/usr/bin/env python3
 """Compares a program with a plain model on seeded cases: run.py MODEL PROGRAM [--cases N] [--seed N] [--kind KIND] [--jobs N] [PEER]
 
-MODEL is a module of this folder, whose doc string says what is compared. `blame`, `carry`, `convert`, `days`, `explain`, `parts`, `publish`,
+MODEL is a module of this folder, whose doc string says what is compared. `blame`, `carry`, `convert`, `days`, `effects`, `explain`, `parts`, `publish`,
 `receive`, `since`, `split`, `views` and `words` know by themselves what the program must print; `commands`, `data_sets`, `desk_files` and `problems` ask PEER,
 another program of the same requirement.
 
@@ -24,7 +24,7 @@ sys.path.insert(0, os.path.join(os.path.dirname(os.path.dirname(os.path.abspath(
 
 from room import Answer, Room
 
-MODELS = ["blame", "carry", "convert", "days", "explain", "parts", "publish", "receive", "since", "split", "views", "words"]
+MODELS = ["blame", "carry", "convert", "days", "effects", "explain", "parts", "publish", "receive", "since", "split", "views", "words"]
 WITH_PEER = ["commands", "data_sets", "desk_files", "problems"]
 SHOWN = 5
 

@@ -297,7 +297,7 @@ class Devices:
             return "another line"
         if files != self.start and not (answer.err == file_fault(kept) and self.is_half_kept(name, files)):
             return "a file changed"
-        return "something was printed" if answer.out and name not in ("take", *UNREAD, "withdraw", "publish") else None
+        return "something was printed" if answer.out and name not in UNREAD and name.split()[0] not in ("take", "withdraw", "publish") else None
 
     def failing_calls(self, error, onward):
         for name, words, kept in COMMANDS:

@@ -108,9 +108,9 @@ class Sweep:
 
     def may_be_printed(self, out):
         """Whether the command may print this before it is refused."""
-        if self.name in ("withdraw", "publish"):
+        if self.name.split()[0] in ("withdraw", "publish"):
             return out in (b"", self.whole.out)
-        return out == b"" or self.name in ("take", "split") and self.is_front(out) or self.name in RECEIVED
+        return out == b"" or self.name.split()[0] in ("take", "split") and self.is_front(out) or self.name in RECEIVED
 
     def wrong_if_done(self, answer):
         if answer.status != 0:

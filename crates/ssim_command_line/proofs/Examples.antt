@@ -31,7 +31,7 @@ with_notes = record { right = refl; name = codes "start"; rows = _; entered = re
 
 -- `receive --refused back fdh.desk fdh.desk mail`
 with_refused : Names (codes "ssimdesk" ∷ codes "receive" ∷ codes "--refused" ∷ codes "back" ∷ codes "fdh.desk" ∷ codes "fdh.desk" ∷ codes "mail" ∷ [])
-    (Receive (Some (codes "back")) (record { csv = false; status = false }) (codes "fdh.desk") (codes "fdh.desk")
+    (Receive (Some (codes "back")) (record { csv = false; status = false; effects = false }) (codes "fdh.desk") (codes "fdh.desk")
     (codes "mail" ∷ []))
 unfolding clap_on_literals
 with_refused = record { right = refl; name = codes "receive"; rows = _; entered = refl; read = refl }
@@ -39,7 +39,7 @@ with_refused = record { right = refl; name = codes "receive"; rows = _; entered 
 -- `receive --csv fdh.desk fdh.desk mail --status`: rows, and a status
 rows_of_mail : Names (codes "ssimdesk" ∷ codes "receive" ∷ codes "--csv" ∷ codes "fdh.desk" ∷ codes "fdh.desk"
     ∷ codes "mail" ∷ codes "--status" ∷ [])
-    (Receive None (record { csv = true; status = true }) (codes "fdh.desk") (codes "fdh.desk")
+    (Receive None (record { csv = true; status = true; effects = false }) (codes "fdh.desk") (codes "fdh.desk")
     (codes "mail" ∷ []))
 unfolding clap_on_literals
 rows_of_mail = record { right = refl; name = codes "receive"; rows = _; entered = refl; read = refl }

@@ -16,13 +16,15 @@ use Rattle.ssim_command_line.specs.Line.{choice_of, choice_words, diff_form_of, 
 use Rattle.ssim_command_line.specs.Line.{findings_form_of, flag, form_of}
 use Rattle.ssim_command_line.specs.Line.{is_given, optional, problems_form_of, receive_form_of, receive_words}
 use Rattle.ssim_command_line.specs.Line.{several_texts, span_of, span_words}
-use Rattle.ssim_command_line.specs.Line.{formed_two_and_any, two_values, values_in}
-use Rattle.ssim_command_line.specs.Line.{Blame, Board, Calendar, Check, Diff, Explain, Export, Findings, History, Listing}
+use Rattle.ssim_command_line.specs.Line.{formed_two_and_any, formed_two_and_texts, two_values, values_in}
+use Rattle.ssim_command_line.specs.Line.{Blame, Board, Calendar, Check, Diff, Explain, Export, Findings, History}
+use Rattle.ssim_command_line.specs.Line.{Listing}
 use Rattle.ssim_command_line.specs.Line.{Merge, Page, Problems, Publish, Receive, Rehearse, Select, Show, Start}
 use Rattle.ssim_command_line.specs.Line.{Carry, Convert, Info, Split, Stations, Take, Texts, Tidy, Withdraw, mode_and_two}
 use Rattle.ssim_command_line.specs.declared.board_form.BoardForm.{BoardForm}
 use Rattle.ssim_command_line.specs.declared.command_line.DiffForm.{DiffForm}
 use Rattle.ssim_command_line.specs.declared.command_line.ModeWord.{ModeWord}
+use Rattle.ssim_command_line.specs.declared.command_line.ReceiveForm.{ReceiveForm}
 use Rattle.ssim_command_line.specs.Usage.{bare_program, leaf}
 use Rattle.ssim_command_line.proofs.PlainWords.{Outcome, outcome, plain_walked, step_at}
 
@@ -207,6 +209,16 @@ several_reader name words make r (a ∷ []) e = no_line e
 several_reader name words make r (a ∷ b ∷ []) e = no_line e
 several_reader name words make r (a ∷ b ∷ t ∷ rest) e = taken (r a b) t rest
 
+formed_texts_reader : (name : Text) (words : List Rule)
+    (make : List Row → ReceiveForm → Text → Text → List Text → Line) (form : List Row → Option ReceiveForm)
+    → (let c = by name words (λ rows. formed_two_and_texts (make rows) (form rows)) in
+    (a b : Text) → TakesTexts c (a ∷ b ∷ []) (λ texts. option_map (λ f. make [] f a b texts) (form [])))
+    → IsReader (by name words (λ rows. formed_two_and_texts (make rows) (form rows)))
+formed_texts_reader name words make form r [] e = no_line e
+formed_texts_reader name words make form r (a ∷ []) e = no_line e
+formed_texts_reader name words make form r (a ∷ b ∷ []) e = no_line e
+formed_texts_reader name words make form r (a ∷ b ∷ t ∷ rest) e = taken (r a b) t rest
+
 any_reader : (name : Text) (words : List Rule) (make : List Row → DiffForm → Text → Text → List Text → Line)
     (form : List Row → Option DiffForm)
     → (let c = by name words (λ rows. formed_two_and_any (make rows) (form rows)) in
@@ -262,13 +274,25 @@ abbrev pub start_row : Command
 start_row = by (codes "start") (three_values ++ flag (codes "notes") ∷ [])
     (λ rows. three (Start (is_given (codes "notes") rows)))
 
+abbrev pub take_row : Command
+take_row = by (codes "take") (two_values ++ several_texts ∷ flag (codes "effects") ∷ [])
+    (λ rows. two_and_texts (Take (is_given (codes "effects") rows)))
+
 abbrev pub receive_row : Command
 receive_row = by (codes "receive") (two_values ++ several_texts ∷ receive_words)
-    (λ rows. two_and_texts (Receive (first_of (codes "refused") rows) (receive_form_of rows)))
+    (λ rows. formed_two_and_texts (Receive (first_of (codes "refused") rows)) (receive_form_of rows))
 
 abbrev pub merge_row : Command
-merge_row = by (codes "merge") (three_values ++ optional (codes "since") ∷ [])
-    (λ rows. three (Merge (first_of (codes "since") rows)))
+merge_row = by (codes "merge") (three_values ++ optional (codes "since") ∷ flag (codes "effects") ∷ [])
+    (λ rows. three (Merge (is_given (codes "effects") rows) (first_of (codes "since") rows)))
+
+abbrev pub carry_row : Command
+carry_row = by (codes "carry") (three_values ++ flag (codes "effects") ∷ [])
+    (λ rows. three (Carry (is_given (codes "effects") rows)))
+
+abbrev pub withdraw_row : Command
+withdraw_row = by (codes "withdraw") (two_values ++ several_texts ∷ flag (codes "effects") ∷ [])
+    (λ rows. two_and_texts (Withdraw (is_given (codes "effects") rows)))
 
 abbrev pub texts_row : Command
 texts_row = by (codes "texts") (one_value ++ any_texts ∷ flag (codes "csv") ∷ span_words)
@@ -340,16 +364,33 @@ unfolding clap_on_literals
 start_read = three_reader start_row.name start_row.words
     (λ rows. Start (is_given (codes "notes") rows)) (λ a b d. refl)
 
+pub take_read : IsReader take_row
+unfolding clap_on_literals
+take_read = several_reader take_row.name take_row.words
+    (λ rows. Take (is_given (codes "effects") rows))
+    (λ a b. record { enter = λ t rest. refl; first = λ t u. refl; later = λ x seen t u. refl })
+
 pub receive_read : IsReader receive_row
 unfolding clap_on_literals
-receive_read = several_reader receive_row.name receive_row.words
-    (λ rows. Receive (first_of (codes "refused") rows) (receive_form_of rows))
+receive_read = formed_texts_reader receive_row.name receive_row.words
+    (λ rows. Receive (first_of (codes "refused") rows)) receive_form_of
     (λ a b. record { enter = λ t rest. refl; first = λ t u. refl; later = λ x seen t u. refl })
 
 pub merge_read : IsReader merge_row
 unfolding clap_on_literals
-merge_read = three_reader merge_row.name merge_row.words (λ rows. Merge (first_of (codes "since") rows))
-    (λ a b d. refl)
+merge_read = three_reader merge_row.name merge_row.words
+    (λ rows. Merge (is_given (codes "effects") rows) (first_of (codes "since") rows)) (λ a b d. refl)
+
+pub carry_read : IsReader carry_row
+unfolding clap_on_literals
+carry_read = three_reader carry_row.name carry_row.words
+    (λ rows. Carry (is_given (codes "effects") rows)) (λ a b d. refl)
+
+pub withdraw_read : IsReader withdraw_row
+unfolding clap_on_literals
+withdraw_read = several_reader withdraw_row.name withdraw_row.words
+    (λ rows. Withdraw (is_given (codes "effects") rows))
+    (λ a b. record { enter = λ t rest. refl; first = λ t u. refl; later = λ x seen t u. refl })
 
 pub texts_read_by : IsReader texts_row
 unfolding clap_on_literals
@@ -421,12 +462,12 @@ readers =
     ∷ record { row = problems_row; reads = problems_read }
     ∷ with_one (codes "tidy") Tidy
     ∷ record { row = start_row; reads = start_read }
-    ∷ with_several (codes "take") Take
+    ∷ record { row = take_row; reads = take_read }
     ∷ record { row = receive_row; reads = receive_read }
     ∷ record { row = merge_row; reads = merge_read }
-    ∷ with_three (codes "carry") Carry
+    ∷ record { row = carry_row; reads = carry_read }
     ∷ record { row = texts_row; reads = texts_read_by }
-    ∷ with_several (codes "withdraw") Withdraw
+    ∷ record { row = withdraw_row; reads = withdraw_read }
     ∷ with_several (codes "show") Show
     ∷ record { row = history_row; reads = history_read }
     ∷ record { row = blame_row; reads = blame_read }

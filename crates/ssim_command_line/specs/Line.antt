@@ -45,12 +45,12 @@ pub data Line : Type 0 where
   Problems : (form : ProblemsForm) (dataset : Text) → Line
   Tidy : (dataset : Text) → Line
   Start : (notes : Bool) (dataset stations out : Text) → Line
-  Take : (desk out : Text) (texts : List Text) → Line
+  Take : (effects : Bool) (desk out : Text) (texts : List Text) → Line
   Receive : (refused : Option Text) (form : ReceiveForm) (desk out : Text) (texts : List Text) → Line
-  Merge : (since : Option Text) (desk other out : Text) → Line
-  Carry : (desk other out : Text) → Line
+  Merge : (effects : Bool) (since : Option Text) (desk other out : Text) → Line
+  Carry : (effects : Bool) (desk other out : Text) → Line
   Texts : (csv : Bool) (span : SpanTexts) (desk : Text) (flights : List Text) → Line
-  Withdraw : (desk out : Text) (references : List Text) → Line
+  Withdraw : (effects : Bool) (desk out : Text) (references : List Text) → Line
   Show : (file flight : Text) (words : List Text) → Line
   History : (csv : Bool) (file flight : Text) (words : List Text) → Line
   Blame : (csv : Bool) (file : Text) (flights : List Text) → Line
@@ -93,16 +93,17 @@ line_of (request.Problems form dataset) = Problems form dataset.now
 line_of (request.Tidy dataset) = Tidy dataset.now
 line_of (request.Start notes dataset stations out) =
     Start notes dataset.now stations.now out.now
-line_of (request.Take desk out texts) = Take desk.now out.now (map (λ t. t.now) texts.items)
+line_of (request.Take effects desk out texts) =
+    Take effects desk.now out.now (map (λ t. t.now) texts.items)
 line_of (request.Receive refused form desk out texts) =
     Receive (option_map (λ r. r.now) refused) form desk.now out.now (map (λ t. t.now) texts.items)
-line_of (request.Merge since desk other out) =
-    Merge (option_map (λ s. s.now) since) desk.now other.now out.now
-line_of (request.Carry desk other out) = Carry desk.now other.now out.now
+line_of (request.Merge effects since desk other out) =
+    Merge effects (option_map (λ s. s.now) since) desk.now other.now out.now
+line_of (request.Carry effects desk other out) = Carry effects desk.now other.now out.now
 line_of (request.Texts csv span desk flights) =
     Texts csv (span_line span) desk.now (map (λ t. t.now) flights.items)
-line_of (request.Withdraw desk out references) =
-    Withdraw desk.now out.now (map (λ r. r.now) references.items)
+line_of (request.Withdraw effects desk out references) =
+    Withdraw effects desk.now out.now (map (λ r. r.now) references.items)
 line_of (request.Show file flight words) =
     Show file.now flight.now (map (λ t. t.now) words.items)
 line_of (request.History csv file flight words) =
@@ -205,10 +206,17 @@ abbrev pub problems_form_of : List Row → ProblemsForm
 problems_form_of rows =
     record { csv = is_given (codes "csv") rows; status = is_given (codes "status") rows }
 
--- which of the options of `receive` are given
-abbrev pub receive_form_of : List Row → ReceiveForm
+-- how `receive` prints with --csv, --status and --effects: not with the first and the last
+abbrev pub receive_form_with : Bool → Bool → Bool → Option ReceiveForm
+receive_form_with true status true = None
+receive_form_with csv status effects =
+    Some (record { csv = csv; status = status; effects = effects })
+
+-- how `receive` prints, if its options say it
+abbrev pub receive_form_of : List Row → Option ReceiveForm
 receive_form_of rows =
-    record { csv = is_given (codes "csv") rows; status = is_given (codes "status") rows }
+    receive_form_with (is_given (codes "csv") rows) (is_given (codes "status") rows)
+    (is_given (codes "effects") rows)
 
 -- which of the options of `findings` are given
 abbrev pub findings_form_of : List Row → FindingsForm
@@ -290,7 +298,9 @@ board_words =
 
 -- the options of `receive`
 abbrev pub receive_words : List Rule
-receive_words = optional (codes "refused") ∷ flag (codes "csv") ∷ flag (codes "status") ∷ []
+receive_words =
+    optional (codes "refused") ∷ flag (codes "csv") ∷ flag (codes "status")
+    ∷ flag (codes "effects") ∷ []
 
 -- the options of `diff`
 abbrev pub diff_words : List Rule
@@ -299,7 +309,7 @@ diff_words =
 
 -- ---- the line that values make: of as many as it names, or of those and the texts after them. One
 -- of two may be missing, which is the first of them. A time mode is one of two words. The options of
--- `board` and of `diff` may say no form.
+-- `board`, of `diff` and of `receive` may say no form.
 
 abbrev pub one : (Text → Line) → List Text → Option Line
 one make (a ∷ []) = Some (make a)
@@ -343,6 +353,11 @@ abbrev pub two_and_texts : (Text → Text → List Text → Line) → List Text 
 two_and_texts make (a ∷ b ∷ t ∷ texts) = Some (make a b (t ∷ texts))
 two_and_texts make _ = None
 
+abbrev pub formed_two_and_texts : (ReceiveForm → Text → Text → List Text → Line)
+    → Option ReceiveForm → List Text → Option Line
+formed_two_and_texts make form (a ∷ b ∷ t ∷ texts) = option_map (λ f. make f a b (t ∷ texts)) form
+formed_two_and_texts make form _ = None
+
 abbrev pub formed_two_and_any : (DiffForm → Text → Text → List Text → Line) → Option DiffForm
     → List Text → Option Line
 formed_two_and_any make form (a ∷ b ∷ texts) = option_map (λ f. make f a b texts) form
@@ -375,25 +390,38 @@ commands =
       words = three_values ++ flag (codes "notes") ∷ [];
       make = λ rows. three (Start (is_given (codes "notes") rows));
     }
-    ∷ command (codes "take") (two_values ++ several_texts ∷ []) (two_and_texts Take)
+    ∷ record {
+      name = codes "take";
+      words = two_values ++ several_texts ∷ flag (codes "effects") ∷ [];
+      make = λ rows. two_and_texts (Take (is_given (codes "effects") rows));
+    }
     ∷ record {
       name = codes "receive";
       words = two_values ++ several_texts ∷ receive_words;
-      make = λ rows. two_and_texts
-          (Receive (first_of (codes "refused") rows) (receive_form_of rows));
+      make = λ rows. formed_two_and_texts (Receive (first_of (codes "refused") rows))
+          (receive_form_of rows);
     }
     ∷ record {
       name = codes "merge";
-      words = three_values ++ optional (codes "since") ∷ [];
-      make = λ rows. three (Merge (first_of (codes "since") rows));
+      words = three_values ++ optional (codes "since") ∷ flag (codes "effects") ∷ [];
+      make = λ rows. three
+          (Merge (is_given (codes "effects") rows) (first_of (codes "since") rows));
     }
-    ∷ command (codes "carry") three_values (three Carry)
+    ∷ record {
+      name = codes "carry";
+      words = three_values ++ flag (codes "effects") ∷ [];
+      make = λ rows. three (Carry (is_given (codes "effects") rows));
+    }
     ∷ record {
       name = codes "texts";
       words = one_value ++ any_texts ∷ flag (codes "csv") ∷ span_words;
       make = λ rows. one_and_texts (Texts (is_given (codes "csv") rows) (span_of rows));
     }
-    ∷ command (codes "withdraw") (two_values ++ several_texts ∷ []) (two_and_texts Withdraw)
+    ∷ record {
+      name = codes "withdraw";
+      words = two_values ++ several_texts ∷ flag (codes "effects") ∷ [];
+      make = λ rows. two_and_texts (Withdraw (is_given (codes "effects") rows));
+    }
     ∷ command (codes "show") (two_values ++ several_texts ∷ []) (two_and_texts Show)
     ∷ record {
       name = codes "history";

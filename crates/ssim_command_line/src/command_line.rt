@@ -55,6 +55,8 @@ pub struct ReceiveForm {
     pub csv: bool,
     /// With a status that says whether a text was refused, or a file was not read.
     pub status: bool,
+    /// With the effects on the timetable. Then it is not CSV.
+    pub effects: bool,
 }
 
 /// How `findings` prints the sub-messages, and which.
@@ -122,8 +124,10 @@ pub enum Request<'a> {
         stations: &'a str,
         out: &'a str,
     },
-    /// Take texts at a desk, and write its desk file.
+    /// Take texts at a desk, and write its desk file. Here, and in the next commands, print the
+    /// effects on the timetable, if that is asked for.
     Take {
+        effects: bool,
         desk: &'a str,
         out: &'a str,
         texts: Vec<&'a str>,
@@ -140,6 +144,7 @@ pub enum Request<'a> {
     /// Merge two desks, and write the desk file; without what one of them has withdrawn since an older
     /// one, if that is named.
     Merge {
+        effects: bool,
         since: Option<&'a str>,
         desk: &'a str,
         other: &'a str,
@@ -147,6 +152,7 @@ pub enum Request<'a> {
     },
     /// Carry the messages of another desk that mean the same to a desk, and write the desk file.
     Carry {
+        effects: bool,
         desk: &'a str,
         other: &'a str,
         out: &'a str,
@@ -161,6 +167,7 @@ pub enum Request<'a> {
     },
     /// Withdraw messages from a desk, and write its desk file.
     Withdraw {
+        effects: bool,
         desk: &'a str,
         out: &'a str,
         references: Vec<&'a str>,
@@ -327,9 +334,12 @@ macro_rules! request {
         }
     };
     (($alloc:expr, $inner:expr, $values:expr)
-        $name:ident($($field:ident),+; $form:ident: $by:ident)) => {
+        $name:ident($($field:ident),+; $($form:ident: $by:ident);+)) => {
         match $values {
-            [$($field),+] => Ok(Some(Request::$name { $form: $by($inner), $($field: *$field),+ })),
+            [$($field),+] => Ok(Some(Request::$name {
+                $($form: $by($inner),)+
+                $($field: *$field),+
+            })),
             _ => Ok(None),
         }
     };
@@ -362,6 +372,22 @@ macro_rules! request {
                     $texts: $texts.to_vec($alloc)?,
                     $form,
                     $options: $of($alloc, $inner)?,
+                })),
+                None => Ok(None),
+            },
+            _ => Ok(None),
+        }
+    };
+    (($alloc:expr, $inner:expr, $values:expr)
+        $name:ident($($field:ident),+; $texts:ident; $option:ident: $of:ident;
+            $form:ident?: $by:ident)) => {
+        match $values {
+            [$($field),+, $texts @ ..] => match $by($inner) {
+                Some($form) => Ok(Some(Request::$name {
+                    $($field: *$field,)+
+                    $texts: $texts.to_vec($alloc)?,
+                    $option: $of($inner),
+                    $form,
                 })),
                 None => Ok(None),
             },
@@ -476,6 +502,13 @@ fn notes_of(inner: &ArgMatches<'_>) -> bool
     ensures { result ≡ is_given (codes "notes") (rows_of (found_of inner.now)) }
 {
     is_given(inner, "notes")
+}
+
+/// Whether the effects on the timetable are to be printed.
+fn effects_of(inner: &ArgMatches<'_>) -> bool
+    ensures { result ≡ is_given (codes "effects") (rows_of (found_of inner.now)) }
+{
+    is_given(inner, "effects")
 }
 
 /// The older desk from which both desks came, if one is named.

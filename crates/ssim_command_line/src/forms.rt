@@ -4,6 +4,7 @@ ghost use Rattle.std.specs.Prelude.{◌≡◌, codes};
 ghost use Rattle.clap.specs.Words.{found_of, rows_of};
 ghost use Rattle.ssim_command_line.specs.Line.{diff_form_of, diff_form_with, findings_form_of, form_of};
 ghost use Rattle.ssim_command_line.specs.Line.{is_given, problems_form_of, receive_form_of};
+ghost use Rattle.ssim_command_line.specs.Line.{receive_form_with};
 
 use crate::command_line::{DiffForm, FindingsForm, ListForm, ProblemsForm, ReceiveForm, is_given};
 use clap::ArgMatches;
@@ -64,14 +65,30 @@ pub(crate) fn problems_form_of(inner: &ArgMatches<'_>) -> ProblemsForm
     }
 }
 
-/// Which of the options of `receive` are given.
-pub(crate) fn receive_form_of(inner: &ArgMatches<'_>) -> ReceiveForm
+/// How `receive` prints with `--csv`, `--status` and `--effects`: not with the first and the last.
+fn receive_form_with(csv: bool, status: bool, effects: bool) -> Option<ReceiveForm>
+    ensures { result ≡ receive_form_with csv status effects }
+{
+    if csv && effects {
+        None
+    } else {
+        Some(ReceiveForm {
+            csv,
+            status,
+            effects,
+        })
+    }
+}
+
+/// How `receive` prints.
+pub(crate) fn receive_form_of(inner: &ArgMatches<'_>) -> Option<ReceiveForm>
     ensures { result ≡ receive_form_of (rows_of (found_of inner.now)) }
 {
-    ReceiveForm {
-        csv: is_given(inner, "csv"),
-        status: is_given(inner, "status"),
-    }
+    receive_form_with(
+        is_given(inner, "csv"),
+        is_given(inner, "status"),
+        is_given(inner, "effects"),
+    )
 }
 
 /// Whether rows of CSV are printed.

@@ -122,7 +122,8 @@ leg, with the number of these dates, the first and the last of them:
 Exit status: 0, also with notes; 1 if the data set or the table is refused, a
 file cannot be read or written, another command holds OUT (92), or OUT is a file
 of another kind (93)."
-        "take" [First("DESK"), Second("OUT"), Several("TEXT")] => Take(desk, out; texts+)
+        "take" [First("DESK"), Second("OUT"), Several("TEXT"), Flag("effects")]
+            => Take(desk, out; texts+; effects: effects_of)
         "Take SSM and ASM texts at a desk, if none of them is refused"
         "\
 OUT may be the file DESK. Each TEXT is the file of one text. At the first that
@@ -133,12 +134,15 @@ prints the reference of each message, 'taken' if it is new and 'repeated' if it
 was held:
   taken SSM 15MAR27 00001 001
   repeated SSM 15MAR27 00001 001
+With --effects it then prints the lines of 'findings --not-acted OUT' that are
+none of 'findings DESK', and the last line of 'diff DESK OUT':
+  different flights 1 dates 1
 Exit status: 0; 1 if the desk file or a text is refused, a file cannot be read
 or written, another command holds OUT (92), or OUT is a file of another kind
 (93)."
         "receive" [First("DESK"), Second("OUT"), Several("TEXT"), Valued("refused", "FILE"),
-            Flag("csv"), Flag("status")]
-            => Receive(desk, out; texts+; refused: refused_of; form: receive_form_of)
+            Flag("csv"), Flag("status"), Flag("effects")]
+            => Receive(desk, out; texts+; refused: refused_of; form?: receive_form_of)
         "Take all valid texts of mailbox files at a desk"
         "\
 OUT may be the file DESK. A TEXT may have any number of texts, with their
@@ -150,13 +154,15 @@ or its refusal, and the number of each:
   mail.txt:2 taken SSM 16MAR27 00003 001 MUCOPZ7
   mail.txt:11 refused 24 BadPeriod line 17
   taken 1 repeated 0 refused 1
-With --csv it prints a row for each text instead.
+With --csv it prints a row for each text instead. With --effects it then prints
+what 'take --effects' prints; not with --csv.
 Exit status: 0, also if texts were refused, but then 3 with --status; 1 if the
 desk file is refused or cannot be read, a file cannot be written, another
 command holds it (92), OUT is a file of another kind, or the file for refused
 texts is not empty or is one of the others (93)."
-        "merge" [First("DESK"), Second("OTHER"), Third("OUT"), Valued("since", "OLD")]
-            => Merge(desk, other, out; since: since_of)
+        "merge" [First("DESK"), Second("OTHER"), Third("OUT"), Valued("since", "OLD"),
+            Flag("effects")]
+            => Merge(desk, other, out; since: since_of; effects: effects_of)
         "Write the desk file of a desk that holds the messages of two"
         "\
 Both desks began from the same data set and station table. With --since OLD, the
@@ -166,11 +172,13 @@ Example:
   ssimdesk merge fdh.desk ham.desk both.desk
 writes the file 'both.desk' and prints the number of messages that it holds:
   held 3
+With --effects it then prints what 'take --effects' prints.
 Exit status: 0; 1 if a desk file is refused, the data sets or the tables differ
 (61), the two hold different messages under one reference (60), a file cannot be
 read or written, another command holds OUT (92), or OUT is a file of another
 kind (93)."
-        "carry" [First("DESK"), Second("OTHER"), Third("OUT")] => Carry(desk, other, out)
+        "carry" [First("DESK"), Second("OTHER"), Third("OUT"), Flag("effects")]
+            => Carry(desk, other, out; effects: effects_of)
         "Write a desk with those messages of another that mean the same in it"
         "\
 OUT may be the file DESK. OTHER may have begun from another data set of the same
@@ -184,6 +192,7 @@ and then the number of messages in OUT:
   left SSM 15MAR27 00002 001
   taken SSM 05MAY27 00001 001
   held 1
+With --effects it then prints what 'take --effects' prints.
 Exit status: 0, also if messages are left; 1 if a desk file is refused, airline
 or time mode differ (61), DESK holds another message under the reference of one
 that means the same (60), a file cannot be read or written, another command
@@ -210,8 +219,8 @@ row for each such sub-message: reference, number, action, flight and period.
 Exit status: 0, also if no message is printed; 1 if the desk file is refused, a
 word is no flight (6) or date (1), the airline is another one (41), or --from is
 after --to (43)."
-        "withdraw" [First("DESK"), Second("OUT"), Several("REFERENCE")]
-            => Withdraw(desk, out; references+)
+        "withdraw" [First("DESK"), Second("OUT"), Several("REFERENCE"), Flag("effects")]
+            => Withdraw(desk, out; references+; effects: effects_of)
         "Write a desk file as if some of its messages had never come"
         "\
 OUT may be the file DESK.
@@ -220,6 +229,7 @@ Example:
 prints each reference, after 'withdrawn', or 'not held' if the desk does not
 hold it:
   withdrawn SSM 15MAR27 00002 001
+With --effects it then prints what 'take --effects' prints.
 A merge with a desk that still holds the message brings it back.
 Exit status: 0, also if no message was held; 1 if the desk file is refused, a
 word is no reference (21), a file cannot be read or written, another command

@@ -34,6 +34,10 @@ const WORDS: &[(Told, &str)] = &[
         Id("notes"),
         "Print the stations that the table lacks or contradicts",
     ),
+    (
+        Id("effects"),
+        "Print what does not act, and how many dates changed",
+    ),
     (Id("days"), "Print N dates, each under a heading"),
     (Id("departures"), "Print the departures alone"),
     (Id("arrivals"), "Print the arrivals alone"),

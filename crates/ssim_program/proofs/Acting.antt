@@ -1,6 +1,7 @@
 -- What commands do by their acts.
 use Rattle.std.proofs.Common.{◌≡◌, ◌∙◌, ◌⊎◌, inl, inr, ℕ, Bool, true, false, if◌then◌else◌, List, [], ◌∷◌, ◌++◌, Option, None, Some, Result, Ok, Err, map, refl, sym, ap, subst}
 use Rattle.ssim_held.specs.Entries.{DeskSeen}
+use Rattle.ssim_held.specs.File.{desk_file}
 use Rattle.ssim_command_line.specs.Line.{Text}
 use Rattle.ssim_program.specs.Acts.{Act, Acts, Print, Keep, Find, Stop, finds, found_then, kept_by, status_of}
 use Rattle.ssim_program.specs.Answer.{Answer}
@@ -16,6 +17,7 @@ use Rattle.ssim_program.specs.declared.made.Made.{Made}
 use Rattle.ssim_program.specs.declared.made.Made.TheVariants as made
 use Rattle.ssim_program.specs.print.Paper.{Paper}
 use Rattle.ssim_program.specs.declared.refusal.Refusal.{Refusal}
+use Rattle.ssim_program.proofs.EffectLines.{then_finds}
 
 -- bytes are printed, or `out` fails
 pub acted_print : (files old : Option Files) (n m : ℕ) (p q : Paper) (bytes : List ℕ) (r : Result (Unit {0}) Refusal) → files ≡ old → n ≡ m → Prints bytes p q r
@@ -53,7 +55,7 @@ made_so file files answer (made.Printed found lines refused kept) makes (Err why
 made_so file files answer (made.DataSet set) makes r is = makes r is
 made_so file files answer (made.Desk desk) makes r is = makes r is
 made_so file files answer (made.Part desk choice) makes r is = makes r is
-made_so file files answer (made.Texts place desk names) makes r is = makes r is
+made_so file files answer (made.Texts place desk names effects) makes r is = makes r is
 made_so file files answer (made.Sections dataset prefix) makes r is = makes r is
 
 -- ---- what the status says
@@ -64,10 +66,11 @@ stopped answer acts says (inl is) = says is
 stopped answer acts says (inr (why, is, are)) = ap finds are
 
 -- texts are taken
-take_finds : (files : Option Files) (out : Text) (names : List Text) (desk : DeskSeen) (acts : List Act) → take_each files out names desk (Ok acts) → finds acts ≡ false
-take_finds files out [] desk acts (rising, are) = ap finds are
-take_finds files out (name ∷ names) desk acts (made, one, (later, inl rest, are)) = ap finds are ∙ take_finds files out names made.0 later rest
-take_finds files out (name ∷ names) desk acts (made, one, (later, inr (why, not_so, is), are)) = ap finds are ∙ ap finds is
+take_finds : (files : Option Files) (effects : Bool) (first : DeskSeen) (out : Text) (names : List Text) (desk : DeskSeen) (acts : List Act)
+    → take_each files effects first out names desk (Ok acts) → finds acts ≡ false
+take_finds files effects first out [] desk acts (rising, are) = ap finds are ∙ then_finds first desk (Keep out (desk_file desk.base desk.held) ∷ []) effects
+take_finds files effects first out (name ∷ names) desk acts (made, one, (later, inl rest, are)) = ap finds are ∙ take_finds files effects first out names made.0 later rest
+take_finds files effects first out (name ∷ names) desk acts (made, one, (later, inr (why, not_so, is), are)) = ap finds are ∙ ap finds is
 
 -- what is done with a section, and then what is next
 fate_finds : (files : Option Files) (fate : SectionFate) (next : Option Files → Answer (List Act))
@@ -105,7 +108,7 @@ finds_made file files (made.Printed found lines refused kept) acts is = ap finds
 finds_made file files (made.DataSet set) acts (bytes, is, are) = ap finds are
 finds_made file files (made.Desk desk) acts (bytes, is, are) = ap finds are
 finds_made file files (made.Part desk choice) acts (bytes, is, are) = ap finds are
-finds_made file files (made.Texts place desk names) acts is = take_finds files (file place) (map (λ t. t.now) names.now) desk acts is
+finds_made file files (made.Texts place desk names effects) acts is = take_finds files effects desk (file place) (map (λ t. t.now) names.now) desk acts is
 finds_made file files (made.Sections dataset prefix) acts (found, has, (header, heads, is)) =
     split_finds files dataset.now prefix.now found.1 files [] (before_all header) (sections_of found.0) acts is
 
@@ -118,7 +121,7 @@ stops_none file files (made.Printed found lines refused kept) why is = absurd is
 stops_none file files (made.DataSet set) why is = refl
 stops_none file files (made.Desk desk) why is = refl
 stops_none file files (made.Part desk choice) why is = refl
-stops_none file files (made.Texts place desk names) why is = refl
+stops_none file files (made.Texts place desk names effects) why is = refl
 stops_none file files (made.Sections dataset prefix) why is = refl
 
 -- what is done with what a command has made is done by its answer, with the same status

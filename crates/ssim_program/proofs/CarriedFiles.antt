@@ -144,7 +144,8 @@ module _ (mine theirs here there : DeskSeen) (one : SameDesk mine here) (other :
 same_count : (xs ys : List Entry) → keyed xs ≡ keyed ys → held_line (length xs) ≡ held_line (length ys)
 same_count xs ys same = ap held_line (sym (length-keyed xs) ∙ ap length same ∙ length-keyed ys)
 
-pub carry_same : NoTwoDesks → (out : Text) → PrintsTheSameOfPairs (λ desk other. Carry desk other out)
+pub carry_same : NoTwoDesks → (out : Text) → PrintsTheSameOfPairs
+    (λ desk other. Carry false desk other out)
 carry_same no_two out files others from to here there acts again same same_too
     (_, may, (mine, read, (theirs, reads, (_, alike, (made, is, (rising, all)))))) (
       _,

@@ -29,6 +29,7 @@ use Rattle.ssim_program.specs.Made.{RefusesLoad}
 use Rattle.ssim_program.specs.MergingSince.{merged_since, older_in}
 use Rattle.ssim_program.specs.Offices.{IsSaid}
 use Rattle.ssim_program.specs.Places.{place_in}
+use Rattle.ssim_program.specs.print.Effects.{effects, effects_then}
 use Rattle.ssim_program.specs.print.Refusal.{IsMemory, IsOfFile, refusal_number, refusal_text}
 use Rattle.ssim_program.specs.declared.content_kind.ContentKind.{ContentKind}
 use Rattle.ssim_program.specs.declared.content_kind.ContentKind.TheVariants as kind
@@ -111,7 +112,28 @@ same_refusal : (why other : Refusal) (before : List Act) → Stop other ∷ [] �
 same_refusal why other [] is = cc
 same_refusal why other (x ∷ before) is = absurd (no_end before why cc)
 
-module _ (one : OneMessage) (files : Files) (out : Text) (r : Reference) where
+-- a desk that is kept at the end is no refusal, and neither are the effects before it
+not_kept : (desk : DeskSeen) (out : Text) (why : Refusal) (before : List Act)
+    → Keep out (desk_file desk.base desk.held) ∷ [] ≡ before ++ Stop why ∷ [] → ⊥
+not_kept desk out why before ends = by (last_of _ before [] why ends)
+  where
+    by : (Keep out (desk_file desk.base desk.held) ≡ Stop why) ⊎ EndsWith why [] → ⊥
+    by (inl is) = kept_or_stopped out (desk_file desk.base desk.held) why is
+    by (inr (xs, e)) = no_end xs why e
+
+not_at_the_end : (first desk : DeskSeen) (out : Text) (asked : Bool) (why : Refusal) (before : List Act)
+    → effects_then asked first desk (Keep out (desk_file desk.base desk.held) ∷ [])
+    ≡ before ++ Stop why ∷ [] → ⊥
+not_at_the_end first desk out false why before ends = not_kept desk out why before ends
+not_at_the_end first desk out true why before ends = by (last_of _ before _ why ends)
+  where
+    by : (Print (effects first desk) ≡ Stop why)
+        ⊎ EndsWith why (Keep out (desk_file desk.base desk.held) ∷ []) → ⊥
+    by (inl is) = printed_or_stopped (effects first desk) why is
+    by (inr (xs, e)) = not_kept desk out why xs e
+
+module _ (one : OneMessage) (files : Files) (effects : Bool) (first : DeskSeen) (out : Text)
+    (r : Reference) where
   -- a text is refused
   text_conflict : (name : Text) (names : List Text) (desk : DeskSeen)
       → text_taken (Some files) name desk (Err (conflict r))
@@ -152,34 +174,29 @@ module _ (one : OneMessage) (files : Files) (out : Text) (r : Reference) where
 
   -- none of the texts is taken
   at_once : (names : List Text) (desk : DeskSeen)
-      → take_each (Some files) out names desk (Err (conflict r)) → HasTwo (Offered files desk names r)
+      → take_each (Some files) effects first out names desk (Err (conflict r)) → HasTwo (Offered files desk names r)
   at_once [] desk memory = absurd (no_memory r memory)
   at_once (name ∷ names) desk (inl refused) = text_conflict name names desk refused
   at_once (name ∷ names) desk (inr (made, taken, never)) = absurd never
 
   through : (names : List Text) (desk : DeskSeen) (later : List Act)
-      → take_each (Some files) out names desk (Ok later)
-      ⊎ ((why : Refusal) × take_each (Some files) out names desk (Err why)
+      → take_each (Some files) effects first out names desk (Ok later)
+      ⊎ ((why : Refusal) × take_each (Some files) effects first out names desk (Err why)
       × (later ≡ Stop why ∷ []))
       → EndsWith (conflict r) later
-      → (take_each (Some files) out names desk (Ok later) → HasTwo (Offered files desk names r))
+      → (take_each (Some files) effects first out names desk (Ok later) → HasTwo (Offered files desk names r))
       → HasTwo (Offered files desk names r)
   through names desk later (inl takes) more again = again takes
   through names desk later (inr (why, not_so, is)) more again =
       let same = same_refusal (conflict r) why more.0 (sym is ∙ more.1) in
-      at_once names desk (subst (λ (x : Refusal). take_each (Some files) out names desk (Err x)) same
+      at_once names desk (subst (λ (x : Refusal). take_each (Some files) effects first out names desk (Err x)) same
       not_so)
 
   after_some : (names : List Text) (desk : DeskSeen) (acts : List Act)
-      → take_each (Some files) out names desk (Ok acts) → EndsWith (conflict r) acts
+      → take_each (Some files) effects first out names desk (Ok acts) → EndsWith (conflict r) acts
       → HasTwo (Offered files desk names r)
   after_some [] desk acts (rising, are) (before, ends) =
-      by (last_of _ before [] (conflict r) (sym are ∙ ends))
-    where
-      by : (Keep out (desk_file desk.base desk.held) ≡ Stop (conflict r)) ⊎ EndsWith (conflict r) []
-          → HasTwo (Offered files desk [] r)
-      by (inl is) = absurd (kept_or_stopped out (desk_file desk.base desk.held) (conflict r) is)
-      by (inr (xs, e)) = absurd (no_end xs (conflict r) e)
+      absurd (not_at_the_end first desk out effects (conflict r) before (sym are ∙ ends))
   after_some (name ∷ names) desk acts (made, taken, (later, rest, are)) (before, ends) =
       by (last_of _ before later (conflict r) (sym are ∙ ends))
       (λ more. through names made.0 later rest more
@@ -194,31 +211,32 @@ module _ (one : OneMessage) (files : Files) (out : Text) (r : Reference) where
 -- ---- the commands
 
 pub take_meets_two : OneMessage → TakeMeetsTwo
-take_meets_two one files name out texts acts r (inl (_, may, (desk, read, takes))) ends =
-    (desk, read, after_some one files out r texts desk acts takes ends)
-take_meets_two one files name out texts acts r (inr (why, not_so, is)) (before, ends) =
-    by (subst (λ (x : Refusal). take (Some files) name out texts (Err x))
+take_meets_two one files effects name out texts acts r (inl (_, may, (desk, read, takes))) ends =
+    (desk, read, after_some one files effects desk out r texts desk acts takes ends)
+take_meets_two one files effects name out texts acts r (inr (why, not_so, is)) (before, ends) =
+    by (subst (λ (x : Refusal). take (Some files) effects name out texts (Err x))
     (same_refusal (conflict r) why before (sym is ∙ ends)) not_so)
   where
-    by : take (Some files) name out texts (Err (conflict r)) → (desk : DeskSeen)
+    by : take (Some files) effects name out texts (Err (conflict r)) → (desk : DeskSeen)
         × desk_in (Some files) name (Ok desk) × HasTwo (Offered files desk texts r)
     by (inl not_held) = absurd (placed (Some files) out kind.DeskFile r not_held)
     by (inr (_, may, inl not_read)) = absurd (opened (Some files) name r not_read)
-    by (inr (_, may, inr (desk, read, takes))) = (desk, read, at_once one files out r texts desk takes)
+    by (inr (_, may, inr (desk, read, takes))) =
+        (desk, read, at_once one files effects desk out r texts desk takes)
 
 pub merge_meets_two : MergeMeetsTwo
-merge_meets_two files mine theirs out r (inl not_held) =
+merge_meets_two files effects mine theirs out r (inl not_held) =
     absurd (placed (Some files) out kind.DeskFile r not_held)
-merge_meets_two files mine theirs out r (inr (_, may, inl not_read)) =
+merge_meets_two files effects mine theirs out r (inr (_, may, inl not_read)) =
     absurd (opened (Some files) mine r not_read)
-merge_meets_two files mine theirs out r (inr (_, may, inr (one, read, inl not_read))) =
+merge_meets_two files effects mine theirs out r (inr (_, may, inr (one, read, inl not_read))) =
     absurd (opened (Some files) theirs r not_read)
-merge_meets_two files mine theirs out r
+merge_meets_two files effects mine theirs out r
     (inr (_, may, inr (one, read, inr (other, reads, inl (fault, refuses, is))))) =
     let c = (subst (RefusesDesk (state_of one) (state_of other))
     (same_fault (desk_fault.Conflict r) fault is) refuses).1.differ in
     (one, other, read, reads, (c.one, c.other, c.apart, inl c.in_one, inr c.in_other))
-merge_meets_two files mine theirs out r
+merge_meets_two files effects mine theirs out r
     (inr (_, may, inr (one, read, inr (other, reads, inr (after, merges, memory))))) =
     absurd (no_memory r memory)
 
@@ -232,20 +250,20 @@ not_over : (r : Reference) → conflict r ≡ refused.Desk desk_fault.OtherBase 
 not_over r e = absurd cc
 
 pub merge_since_meets_two : MergeSinceMeetsTwo
-merge_since_meets_two files since mine theirs out r (inl not_held) =
+merge_since_meets_two files effects since mine theirs out r (inl not_held) =
     absurd (placed (Some files) out kind.DeskFile r not_held)
-merge_since_meets_two files since mine theirs out r (inr (_, may, inl not_read)) =
+merge_since_meets_two files effects since mine theirs out r (inr (_, may, inl not_read)) =
     absurd (opened_older (Some files) since r not_read)
-merge_since_meets_two files since mine theirs out r
+merge_since_meets_two files effects since mine theirs out r
     (inr (_, may, inr (old, older, inl not_read))) =
     absurd (opened (Some files) mine r not_read)
-merge_since_meets_two files since mine theirs out r
+merge_since_meets_two files effects since mine theirs out r
     (inr (_, may, inr (old, older, inr (one, read, inl not_read)))) =
     absurd (opened (Some files) theirs r not_read)
-merge_since_meets_two files since mine theirs out r
+merge_since_meets_two files effects since mine theirs out r
     (inr (_, may, inr (old, older, inr (one, read, inr (other, reads, inl (apart, is)))))) =
     absurd (not_over r is)
-merge_since_meets_two files since mine theirs out r
+merge_since_meets_two files effects since mine theirs out r
     (inr (_, may, inr (old, older, inr (one, read, inr (other, reads, inr (_, over, inl merges)))))) =
     (one, other, read, reads, by merges)
   where
@@ -262,7 +280,7 @@ merge_since_meets_two files since mine theirs out r
           inl ((stays.holds r c.one).0 c.in_one).0,
           inr ((comes.holds r c.other).0 c.in_other).0,
         )
-merge_since_meets_two files since mine theirs out r (inr (
+merge_since_meets_two files effects since mine theirs out r (inr (
   _,
   may,
   inr (
@@ -274,21 +292,21 @@ merge_since_meets_two files since mine theirs out r (inr (
     absurd (no_memory r memory)
 
 pub carry_meets_two : CarryMeetsTwo
-carry_meets_two files mine theirs out r (inl not_held) =
+carry_meets_two files effects mine theirs out r (inl not_held) =
     absurd (placed (Some files) out kind.DeskFile r not_held)
-carry_meets_two files mine theirs out r (inr (_, may, inl not_read)) =
+carry_meets_two files effects mine theirs out r (inr (_, may, inl not_read)) =
     absurd (opened (Some files) mine r not_read)
-carry_meets_two files mine theirs out r (inr (_, may, inr (one, read, inl not_read))) =
+carry_meets_two files effects mine theirs out r (inr (_, may, inr (one, read, inl not_read))) =
     absurd (opened (Some files) theirs r not_read)
-carry_meets_two files mine theirs out r
+carry_meets_two files effects mine theirs out r
     (inr (_, may, inr (one, read, inr (other, reads, inl (apart, is))))) = absurd (other_base r is)
   where
     other_base : (r : Reference) → conflict r ≡ refused.Desk desk_fault.OtherBase → ⊥
     other_base r e = absurd cc
-carry_meets_two files mine theirs out r
+carry_meets_two files effects mine theirs out r
     (inr (_, may, inr (one, read, inr (other, reads, inr (_, alike, inl (inl memory)))))) =
     absurd (no_memory r memory)
-carry_meets_two files mine theirs out r
+carry_meets_two files effects mine theirs out r
     (inr (_, may, inr (one, read, inr (other, reads, inr (_, alike, inl (inr (q, first, is))))))) =
     let same : q ≡ r = same_reference q r is in
     let c = (subst (IsFirstConflict one other) same first).conflict in
@@ -296,6 +314,6 @@ carry_meets_two files mine theirs out r
   where
     same_reference : (q r : Reference) → conflict r ≡ refused.Desk (desk_fault.Conflict q) → q ≡ r
     same_reference q r e = cc
-carry_meets_two files mine theirs out r
+carry_meets_two files effects mine theirs out r
     (inr (_, may, inr (one, read, inr (other, reads, inr (_, alike, inr (made, carries, memory)))))) =
     absurd (no_memory r memory)

@@ -290,7 +290,7 @@ module _ (no_two : NoTwoDesks) where
       (ap (λ (b : BaseSeen). b.records) one.0) (λ i. days (seen (one.0 i) (one.1 i))))
 
   pub withdraw_same : OneReference → (out : Text) (references : List Text)
-      → PrintsTheSame (λ file. Withdraw file out references)
+      → PrintsTheSame (λ file. Withdraw false file out references)
   withdraw_same one_each out words files others name another acts again same
       (_, may, (desk, read, (left, is, (rising, all))))
       (_, may_too, (other, reads, (last, are, (rising_too, all_too)))) =

@@ -2,7 +2,7 @@
 -- or
 -- none, but for the refused texts of `receive`.
 use Rattle.std.proofs.Common.{◌≡◌, ◌∙◌, ◌⊎◌, ◌&&◌, inl, inr, ℕ, Bool, true, false, List, [], ◌∷◌, ◌++◌}
-use Rattle.std.proofs.Common.{Option, Some, None, Result, Ok, Err, refl, sym, ap, subst, drop}
+use Rattle.std.proofs.Common.{Option, Some, None, Result, Ok, Err, refl, sym, ap, subst, drop, length}
 use Rattle.ssim_held.specs.Entries.{DeskSeen}
 use Rattle.ssim_held.specs.File.{desk_file}
 use Rattle.ssim_command_line.specs.Line.{Line, Text}
@@ -18,13 +18,17 @@ use Rattle.ssim_program.specs.Offices.{StartKept, TakeKept, ReceiveKept, MergeKe
 use Rattle.ssim_program.specs.Offices.{WithdrawKept, Unchanged, Came, AllCame}
 use Rattle.ssim_program.specs.Receiving.{Receipt, any_refused, printed_receipts, received_files}
 use Rattle.ssim_program.specs.Receiving.{refused_texts}
+use Rattle.ssim_program.specs.Desks.{held_line}
 use Rattle.ssim_program.specs.Runs.{Runs}
 use Rattle.ssim_program.specs.World.{World}
+use Rattle.ssim_program.specs.print.Effects.{with_effects}
 use Rattle.ssim_program.specs.print.Paper.{Paper}
 use Rattle.ssim_program.specs.print.StationNotes.{start_lines}
 use Rattle.ssim_program.specs.declared.refusal.Refusal.{Refusal}
 use Rattle.ssim_program.proofs.Acting.{performed}
+use Rattle.ssim_program.proofs.EffectLines.{then_kept, then_whole}
 use Rattle.ssim_program.proofs.Origins.{same_some}
+use Rattle.ssim_program.proofs.Taking.{without}
 
 -- ---- what some of the acts have kept
 
@@ -122,13 +126,23 @@ module _ (l : Line) (old new : Files) (acts done later : List Act) (split : acts
                 leaves (same_files (kept_by acts) (both ∙ sym is));
           }
 
+-- a desk is kept, and lines are printed
+abbrev keeps_desk : Text → DeskSeen → List ℕ → List Act
+keeps_desk out desk lines = Keep out (desk_file desk.base desk.held) ∷ Print lines ∷ []
+
 -- texts are taken, and the desk is kept; or the command stops, and keeps nothing
-taken : (files : Option Files) (out : Text) (names : List Text) (desk : DeskSeen) (acts : List Act)
-    → take_each files out names desk (Ok acts)
+taken : (files : Option Files) (effects : Bool) (first : DeskSeen) (out : Text) (names : List Text)
+    (desk : DeskSeen) (acts : List Act) → take_each files effects first out names desk (Ok acts)
     → (kept_by acts ≡ []) ⊎ ((x : Text × List ℕ) × (kept_by acts ≡ x ∷ []) × (is_whole acts ≡ true))
-taken files out [] desk acts (rising, are) = inr (_, ap kept_by are, ap is_whole are)
-taken files out (name ∷ names) desk acts (made, one, (later, inl rest, are)) =
-    by (taken files out names made.0 later rest)
+taken files effects first out [] desk acts (rising, are) =
+    let keep = Keep out (desk_file desk.base desk.held) ∷ [] in
+    inr (
+      _,
+      ap kept_by are ∙ then_kept first desk keep effects,
+      ap is_whole are ∙ then_whole first desk keep effects,
+    )
+taken files effects first out (name ∷ names) desk acts (made, one, (later, inl rest, are)) =
+    by (taken files effects first out names made.0 later rest)
   where
     by : (kept_by later ≡ [])
         ⊎ ((x : Text × List ℕ) × (kept_by later ≡ x ∷ []) × (is_whole later ≡ true))
@@ -136,52 +150,69 @@ taken files out (name ∷ names) desk acts (made, one, (later, inl rest, are)) =
         ⊎ ((x : Text × List ℕ) × (kept_by acts ≡ x ∷ []) × (is_whole acts ≡ true))
     by (inl none) = inl (ap kept_by are ∙ none)
     by (inr (x, kept, whole)) = inr (x, ap kept_by are ∙ kept, ap is_whole are ∙ whole)
-taken files out (name ∷ names) desk acts (made, one, (later, inr (why, not_so, is), are)) =
+taken files effects first out (name ∷ names) desk acts
+    (made, one, (later, inr (why, not_so, is), are)) =
     inl (ap kept_by are ∙ ap kept_by is)
 
 module _ (old new : Files) (acts done later : List Act) (split : acts ≡ done ++ later)
     (left : Some new ≡ with_kept (kept_by done) (Some old)) where
-  -- what `receive` keeps, whatever its status says
-  kept_of : (refused : Option Text) (csv found : Bool) (out : Text) (receipts : List Receipt)
-      (after : DeskSeen)
-      → acts ≡ found_then found
-      (Print (printed_receipts csv receipts) ∷ received_files refused out receipts after)
+  -- what `receive` keeps, whatever it prints and its status says
+  kept_of : (refused : Option Text) (found : Bool) (printed : List ℕ) (out : Text)
+      (receipts : List Receipt) (after : DeskSeen)
+      → acts ≡ found_then found (Print printed ∷ received_files refused out receipts after)
       → kept_by acts ≡ kept_by (received_files refused out receipts after)
-  kept_of refused csv found out receipts after are = ap kept_by are
-      ∙ kept_too found
-      (Print (printed_receipts csv receipts) ∷ received_files refused out receipts after)
+  kept_of refused found printed out receipts after are = ap kept_by are
+      ∙ kept_too found (Print printed ∷ received_files refused out receipts after)
+
+  -- what `receive` prints
+  abbrev lines : ReceiveForm → DeskSeen → List Receipt × DeskSeen → List ℕ
+  lines form before result =
+      with_effects form.effects before result.1 (printed_receipts form.csv result.0)
 
   received : (refused : Option Text) (form : ReceiveForm) (desk out : Text) (names : List Text)
       → answers (line.Receive refused form desk out names) (Some old) (Ok acts)
       → Leads (line.Receive refused form desk out names) old new
-  received None form desk out names (_, places, (result, got, are)) =
+  received None form desk out names (_, places, (before, read, (result, got, are))) =
       let found = form.status && any_refused result.0 in
-      let kept = kept_of None form.csv found out result.0 result.1 are in
+      let kept = kept_of None found (lines form before result) out result.0 result.1 are in
       keeps_one (line.Receive None form desk out names) old new acts done later split left _
-      (ReceiveKept None desk out names result.0) kept (inl (result.0, refl))
-      (λ is. (result.1, got, is ∙ ap (λ (k : Kept). with_kept k (Some old)) kept))
-  received (Some name) form desk out names (_, places, (result, got, are)) =
+      (ReceiveKept None desk out names result.0) kept (inl (result.0, refl)) (λ is. (
+        result.1,
+        (before, read, got),
+        is ∙ ap (λ (k : Kept). with_kept k (Some old)) kept,
+      ))
+  received (Some name) form desk out names (_, places, (before, read, (result, got, are))) =
       let found = form.status && any_refused result.0 in
-      let kept = kept_of (Some name) form.csv found out result.0 result.1 are in
+      let kept = kept_of (Some name) found (lines form before result) out result.0 result.1 are in
       keeps_two (line.Receive (Some name) form desk out names) old new acts done later split left
       (name, refused_texts result.0) _ (ReceiveKept (Some name) desk out names result.0)
       kept (inl (result.0, refl))
-      (inr (name, refused_texts result.0, refl, refl))
-      (λ is. (result.1, got, is ∙ ap (λ (k : Kept). with_kept k (Some old)) kept))
+      (inr (name, refused_texts result.0, refl, refl)) (λ is. (
+        result.1,
+        (before, read, got),
+        is ∙ ap (λ (k : Kept). with_kept k (Some old)) kept,
+      ))
 
-  took : (desk out : Text) (texts : List Text)
-      → answers (line.Take desk out texts) (Some old) (Ok acts)
-      → Leads (line.Take desk out texts) old new
-  took desk out texts (_, may, (one, read, takes)) = by (taken (Some old) out texts one acts takes)
+  took : (effects : Bool) (desk out : Text) (texts : List Text)
+      → answers (line.Take effects desk out texts) (Some old) (Ok acts)
+      → Leads (line.Take effects desk out texts) old new
+  took effects desk out texts (_, may, (one, read, takes)) =
+      by (taken (Some old) effects one out texts one acts takes)
     where
       by : (kept_by acts ≡ [])
           ⊎ ((x : Text × List ℕ) × (kept_by acts ≡ x ∷ []) × (is_whole acts ≡ true))
-          → Leads (line.Take desk out texts) old new
-      by (inl none) = looks (line.Take desk out texts) old new acts done later split left none
+          → Leads (line.Take effects desk out texts) old new
+      by (inl none) =
+          looks (line.Take effects desk out texts) old new acts done later split left none
       by (inr (x, kept, whole)) =
-          keeps_one (line.Take desk out texts) old new acts done later split left x
-          (TakeKept desk out texts) kept refl
-          (λ is. (acts, (tt, may, (one, read, takes)), whole, is))
+          let less = without (Some old) effects one out texts one acts takes whole in
+          keeps_one (line.Take effects desk out texts) old new acts done later split left x
+          (TakeKept desk out texts) kept refl (λ is. (
+            less.others,
+            (tt, may, (one, read, less.takes)),
+            less.whole,
+            is ∙ ap (λ (k : Kept). with_kept k (Some old)) (sym less.same),
+          ))
 
   of_line : (l : Line) → answers l (Some old) (Ok acts) → Leads l old new
   of_line (line.Check name) (bytes, is, are) =
@@ -200,47 +231,49 @@ module _ (old new : Files) (acts done later : List Act) (split : acts ≡ done +
         refl,
         is ∙ ap (λ (k : Kept). with_kept k (Some old)) (ap kept_by are),
       ))
-  of_line (line.Take desk out texts) made = took desk out texts made
+  of_line (line.Take effects desk out texts) made = took effects desk out texts made
   of_line (line.Receive refused form desk out names) made =
       received refused form desk out names made
-  of_line (line.Merge (Some since) mine theirs out)
+  of_line (line.Merge effects (Some since) mine theirs out)
       (_, may, (first, older, (one, read, (other, reads, (_, over, (after, merges, (rising, are))))))) =
       keeps_one _ old new acts done later split left _ (MergeSinceKept since mine theirs out)
       (ap kept_by are) refl
       (λ is. (
-        acts,
-        (tt, may, (first, older, (one, read, (other, reads, (tt, over, (after, merges, (rising, are))))))),
-        ap
-            is_whole are,
-        is,
+        keeps_desk out after (held_line (length after.held)),
+        (tt, may, (first, older, (one, read, (other, reads, (tt, over, (after, merges, (rising, refl))))))),
+        refl,
+        is ∙ ap (λ (k : Kept). with_kept k (Some old)) (ap kept_by are),
       ))
-  of_line (line.Merge None mine theirs out)
+  of_line (line.Merge effects None mine theirs out)
       (_, may, (one, read, (other, reads, (after, is_merge, (rising, are))))) =
       keeps_one _ old new acts done later split left _ (MergeKept mine theirs out) (ap kept_by are)
       refl
       (λ is. (
-        acts,
-        (tt, may, (one, read, (other, reads, (after, is_merge, (rising, are))))),
-        ap
-            is_whole are,
-        is,
+        keeps_desk out after (held_line (length after.held)),
+        (tt, may, (one, read, (other, reads, (after, is_merge, (rising, refl))))),
+        refl,
+        is ∙ ap (λ (k : Kept). with_kept k (Some old)) (ap kept_by are),
       ))
-  of_line (line.Carry mine theirs out)
+  of_line (line.Carry effects mine theirs out)
       (_, may, (one, read, (other, reads, (_, alike, (made, carries, (rising, are)))))) =
       keeps_one _ old new acts done later split left _ (CarryKept mine theirs out) (ap kept_by are)
       refl
       (λ is. (
-        acts,
-        (tt, may, (one, read, (other, reads, (tt, alike, (made, carries, (rising, are)))))),
-        ap
-            is_whole are,
-        is,
+        keeps_desk out made.0 (made.1 ++ held_line (length made.0.held)),
+        (tt, may, (one, read, (other, reads, (tt, alike, (made, carries, (rising, refl)))))),
+        refl,
+        is ∙ ap (λ (k : Kept). with_kept k (Some old)) (ap kept_by are),
       ))
-  of_line (line.Withdraw desk out references)
-      (_, may, (one, read, (after, withdraws, (rising, are)))) =
+  of_line (line.Withdraw effects desk out references)
+      (_, may, (one, read, (still, withdraws, (rising, are)))) =
       keeps_one _ old new acts done later split left _ (WithdrawKept desk out references)
       (ap kept_by are) refl
-      (λ is. (acts, (tt, may, (one, read, (after, withdraws, (rising, are)))), ap is_whole are, is))
+      (λ is. (
+        Print still.1 ∷ Keep out (desk_file still.0.base still.0.held) ∷ [],
+        (tt, may, (one, read, (still, withdraws, (rising, refl)))),
+        refl,
+        is ∙ ap (λ (k : Kept). with_kept k (Some old)) (ap kept_by are),
+      ))
   of_line (line.Texts csv span desk flights) (bytes, is, are) =
       looks _ old new acts done later split left (ap kept_by are)
   of_line (line.Show desk flight words) (bytes, is, are) =

@@ -1,3 +1,5 @@
+pub mod EffectLines
+pub mod LineSets
 pub mod Printers
 pub mod Acting
 pub mod Again

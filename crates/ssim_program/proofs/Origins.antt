@@ -194,7 +194,7 @@ comes (StartKept dataset stations out) old new name
     written out name bytes old new (Started dataset stations)
     (with_file out bytes acts old new (ap kept_by are) is) (base, read, records, refl)
 comes (TakeKept desk out texts) old new name (acts, (_, may, (before, read, takes)), whole, is) =
-    let taken = are_taken (Some old) out texts before acts takes whole in
+    let taken = are_taken (Some old) false before out texts before acts takes whole in
     let bytes = desk_file taken.after.base taken.after.held in
     written out name bytes old new (Took desk texts) (with_file out bytes acts old new taken.is is)
     (before, taken.after, taken.printed, read, taken.takes, taken.rising, refl)

@@ -56,8 +56,8 @@ use Rattle.ssim_program.specs.Messages.{flights_named, flights_on, printed_messa
 use Rattle.ssim_program.specs.Places.{place_in}
 use Rattle.ssim_program.specs.Splitting.{split}
 use Rattle.ssim_program.specs.Spans.{dates_alone, has_end, lines_found}
-use Rattle.ssim_program.specs.Receiving.{any_refused, places_in, printed_receipts, received}
-use Rattle.ssim_program.specs.Receiving.{received_files}
+use Rattle.ssim_program.specs.Receiving.{any_refused, places_in, printed_receipts}
+use Rattle.ssim_program.specs.Receiving.{received_at, received_files}
 use Rattle.ssim_program.specs.Timetables.{carrier_of, known_in, shown_in, timetable_in}
 use Rattle.ssim_program.specs.MergingSince.{IsOver, merged_since, older_in}
 use Rattle.ssim_program.specs.Withdrawing.{withdrawn}
@@ -67,6 +67,7 @@ use Rattle.ssim_program.specs.print.Board.{printed_board}
 use Rattle.ssim_program.specs.print.Calendar.{calendars}
 use Rattle.ssim_program.specs.print.Info.{info_lines}
 use Rattle.ssim_program.specs.print.Difference.{reported_difference}
+use Rattle.ssim_program.specs.print.Effects.{effects_then, with_effects}
 use Rattle.ssim_program.specs.print.Listing.{printed_list}
 use Rattle.ssim_program.specs.print.Page.{message_articles}
 use Rattle.ssim_program.specs.print.HistoryRows.{printed_history}
@@ -107,80 +108,90 @@ start files notes dataset stations out = do
       (Keep out (desk_file base []) ∷ Print (start_lines notes base) ∷ [])
 
 -- The texts in the files of these names are taken one after another, and each line is printed as it
--- is made. At last the desk is kept.
-abbrev pub take_each : Option Files → Text → List Text → DeskSeen → Answer (List Act)
-take_each files out [] desk =
-    Known (AreRising desk.held) (Keep out (desk_file desk.base desk.held) ∷ [])
-take_each files out (name ∷ names) desk = do
+-- is made. At last the effects on the desk that was there before are printed, if the words ask for
+-- them, and the desk is kept.
+abbrev pub take_each : Option Files → Bool → DeskSeen → Text → List Text → DeskSeen
+    → Answer (List Act)
+take_each files effects before out [] desk =
+    Known (AreRising desk.held)
+    (effects_then effects before desk (Keep out (desk_file desk.base desk.held) ∷ []))
+take_each files effects before out (name ∷ names) desk = do
   taken ← text_taken files name desk
-  prints_then taken.1 (take_each files out names taken.0)
+  prints_then taken.1 (take_each files effects before out names taken.0)
 
 -- the desk in a file takes texts
-abbrev pub take : Option Files → Text → Text → List Text → Answer (List Act)
-take files file out names = do
+abbrev pub take : Option Files → Bool → Text → Text → List Text → Answer (List Act)
+take files effects file out names = do
   place ← place_in files out kind.DeskFile
   desk ← desk_in files file
-  take_each files out names desk
+  take_each files effects desk out names desk
 
--- The desk in a file tries the texts of mailboxes. The line or the row of each is printed, the
--- refused texts are kept, if a name is given, and then the desk. If the words ask for the status, it
--- says whether there are refused texts or files that were not read.
+-- The desk in a file tries the texts of mailboxes. The line or the row of each is printed, and the
+-- effects, if the words ask for them; the refused texts are kept, if a name is given, and then the
+-- desk. If the words ask for the status, it says whether there are refused texts or files that were
+-- not read.
 abbrev pub receive : Option Files → Option Text → ReceiveForm → Text → Text → List Text
     → Answer (List Act)
 receive files refused form file out names = do
   places ← places_in files refused file out names
-  result ← received files file names
+  before ← desk_in files file
+  result ← received_at files names before
   Gives (found_then (form.status && any_refused result.0)
-      (Print (printed_receipts form.csv result.0) ∷ received_files refused out result.0 result.1))
+      (Print (with_effects form.effects before result.1 (printed_receipts form.csv result.0))
+      ∷ received_files refused out result.0 result.1))
 
--- A desk that holds what two desks hold, in order of reference, and the number of its messages.
-abbrev pub merge : Option Files → Text → Text → Text → Answer (List Act)
-merge files file other out = do
+-- A desk that holds what two desks hold, in order of reference, and the number of its messages; here
+-- and below also the effects on the first desk, if the words ask for them.
+abbrev pub merge : Option Files → Bool → Text → Text → Text → Answer (List Act)
+merge files effects file other out = do
   place ← place_in files out kind.DeskFile
   mine ← desk_in files file
   theirs ← desk_in files other
   after ← merged mine theirs
-  Known (AreRising after.held)
-      (Keep out (desk_file after.base after.held) ∷ Print (held_line (length after.held)) ∷ [])
+  Known (AreRising after.held) (Keep out (desk_file after.base after.held)
+      ∷ Print (with_effects effects mine after (held_line (length after.held))) ∷ [])
 
 -- A desk that holds what two desks hold, without what one of them has withdrawn since an older one,
 -- and the number of its messages. The older one has the base of both (else 61).
-abbrev pub merge_since : Option Files → Text → Text → Text → Text → Answer (List Act)
-merge_since files since file other out = do
+abbrev pub merge_since : Option Files → Bool → Text → Text → Text → Text → Answer (List Act)
+merge_since files effects since file other out = do
   place ← place_in files out kind.DeskFile
   old ← older_in files since
   mine ← desk_in files file
   theirs ← desk_in files other
   one ← Require (IsOver old mine) (refused.Desk desk_fault.OtherBase)
   after ← merged_since old mine theirs
-  Known (AreRising after.held)
-      (Keep out (desk_file after.base after.held) ∷ Print (held_line (length after.held)) ∷ [])
+  Known (AreRising after.held) (Keep out (desk_file after.base after.held)
+      ∷ Print (with_effects effects mine after (held_line (length after.held))) ∷ [])
 
 -- one of the two, by whether an older desk is named
-abbrev pub merge_either : Option Files → Option Text → Text → Text → Text → Answer (List Act)
-merge_either files None file other out = merge files file other out
-merge_either files (Some since) file other out = merge_since files since file other out
+abbrev pub merge_either : Option Files → Bool → Option Text → Text → Text → Text
+    → Answer (List Act)
+merge_either files effects None file other out = merge files effects file other out
+merge_either files effects (Some since) file other out =
+    merge_since files effects since file other out
 
 -- A desk that holds what it held and those messages of another that mean the same in it, and what
 -- became of each. The data sets are of one airline and one time mode (else 61).
-abbrev pub carry : Option Files → Text → Text → Text → Answer (List Act)
-carry files file other out = do
+abbrev pub carry : Option Files → Bool → Text → Text → Text → Answer (List Act)
+carry files effects file other out = do
   place ← place_in files out kind.DeskFile
   mine ← desk_in files file
   theirs ← desk_in files other
   one ← Require (AreOfOneAirline mine theirs) (refused.Desk desk_fault.OtherBase)
   made ← carried mine theirs
   Known (AreRising made.0.held) (Keep out (desk_file made.0.base made.0.held)
-      ∷ Print (made.1 ++ held_line (length made.0.held)) ∷ [])
+      ∷ Print (with_effects effects mine made.0 (made.1 ++ held_line (length made.0.held))) ∷ [])
 
 -- A line for each of these references, and then the desk without their messages.
-abbrev pub withdraw : Option Files → Text → Text → List Text → Answer (List Act)
-withdraw files file out references = do
+abbrev pub withdraw : Option Files → Bool → Text → Text → List Text → Answer (List Act)
+withdraw files effects file out references = do
   place ← place_in files out kind.DeskFile
   desk ← desk_in files file
   left ← withdrawn references desk
   Known (AreRising left.0.held)
-      (Print left.1 ∷ Keep out (desk_file left.0.base left.0.held) ∷ [])
+      (Print (with_effects effects desk left.0 left.1)
+      ∷ Keep out (desk_file left.0.base left.0.held) ∷ [])
 
 -- ---- what a desk holds
 
@@ -398,12 +409,14 @@ answers (Check name) files = prints (check files name)
 answers (Problems form name) files = reports form.status (problems files form.csv name)
 answers (Tidy name) files = tidy files name
 answers (Start notes dataset stations out) files = start files notes dataset stations out
-answers (Take file out names) files = take files file out names
+answers (Take effects file out names) files = take files effects file out names
 answers (Receive refused form file out names) files =
     receive files refused form file out names
-answers (Merge since file other out) files = merge_either files since file other out
-answers (Carry file other out) files = carry files file other out
-answers (Withdraw file out references) files = withdraw files file out references
+answers (Merge effects since file other out) files =
+    merge_either files effects since file other out
+answers (Carry effects file other out) files = carry files effects file other out
+answers (Withdraw effects file out references) files =
+    withdraw files effects file out references
 answers (Texts csv span file flights) files = prints (texts files csv span file flights)
 answers (Show file flight words) files = prints (show files file flight words)
 answers (History csv file flight words) files = prints (history files csv file flight words)

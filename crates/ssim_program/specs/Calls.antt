@@ -17,15 +17,16 @@ use Rattle.ssim_program.specs.declared.refusal.Refusal.{Refusal}
 -- data sets come, all or those before a refusal.
 abbrev pub IsEventOf : Line → Event → Type 0
 IsEventOf (Start notes dataset stations out) event = event ≡ StartKept dataset stations out
-IsEventOf (Take desk out texts) event = event ≡ TakeKept desk out texts
+IsEventOf (Take effects desk out texts) event = event ≡ TakeKept desk out texts
 IsEventOf (Receive refused form desk out names) event =
     ((receipts : List Receipt) × (event ≡ ReceiveKept refused desk out names receipts))
     ⊎ ((name : Text) × (texts : List ℕ) × (refused ≡ Some name) × (event ≡ Came name texts))
-IsEventOf (Merge None mine theirs out) event = event ≡ MergeKept mine theirs out
-IsEventOf (Merge (Some since) mine theirs out) event =
+IsEventOf (Merge effects None mine theirs out) event = event ≡ MergeKept mine theirs out
+IsEventOf (Merge effects (Some since) mine theirs out) event =
     event ≡ MergeSinceKept since mine theirs out
-IsEventOf (Carry mine theirs out) event = event ≡ CarryKept mine theirs out
-IsEventOf (Withdraw desk out references) event = event ≡ WithdrawKept desk out references
+IsEventOf (Carry effects mine theirs out) event = event ≡ CarryKept mine theirs out
+IsEventOf (Withdraw effects desk out references) event =
+    event ≡ WithdrawKept desk out references
 IsEventOf (Publish from to reference out) event = (mail : List ℕ) × (event ≡ Came out mail)
 IsEventOf (Convert mode file out) event = (set : List ℕ) × (event ≡ Came out set)
 IsEventOf (Split dataset prefix) event = (sets : Kept) × (event ≡ AllCame sets)

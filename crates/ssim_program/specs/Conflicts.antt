@@ -1,5 +1,5 @@
 -- Of which messages a command or a line speaks that is refused for a conflict (60).
-use Rattle.std.specs.Prelude.{◌≡◌, ◌≢◌, ◌⊎◌, List, [], ◌∷◌, ◌++◌, Some, Ok, Err}
+use Rattle.std.specs.Prelude.{◌≡◌, ◌≢◌, ◌⊎◌, Bool, List, [], ◌∷◌, ◌++◌, Some, Ok, Err}
 use Rattle.ssim_text.specs.Message.{MessageValue}
 use Rattle.ssim_text.specs.declared.reference.Reference.{Reference}
 use Rattle.ssim_base.specs.BaseSeen.{BaseSeen}
@@ -34,8 +34,9 @@ EndsWith why acts = (before : List Act) × (acts ≡ before ++ Stop why ∷ [])
 -- holds and those that its texts say.
 abbrev pub TakeMeetsTwo : Type 0
 TakeMeetsTwo =
-    (files : Files) (name out : Text) (texts : List Text) (acts : List Act) (reference : Reference)
-    → Acts (take (Some files) name out texts) acts → EndsWith (conflict reference) acts
+    (files : Files) (effects : Bool) (name out : Text) (texts : List Text) (acts : List Act)
+    (reference : Reference)
+    → Acts (take (Some files) effects name out texts) acts → EndsWith (conflict reference) acts
     → (desk : DeskSeen) × desk_in (Some files) name (Ok desk)
     × HasTwo (λ m. Holds (state_of desk) reference m ⊎ IsSaid files desk.base texts reference m)
 
@@ -43,8 +44,8 @@ TakeMeetsTwo =
 -- hold.
 abbrev pub MergeMeetsTwo : Type 0
 MergeMeetsTwo =
-    (files : Files) (mine theirs out : Text) (reference : Reference)
-    → merge (Some files) mine theirs out (Err (conflict reference))
+    (files : Files) (effects : Bool) (mine theirs out : Text) (reference : Reference)
+    → merge (Some files) effects mine theirs out (Err (conflict reference))
     → (one : DeskSeen) × (other : DeskSeen) × desk_in (Some files) mine (Ok one)
     × desk_in (Some files) theirs (Ok other)
     × HasTwo (λ m. Holds (state_of one) reference m ⊎ Holds (state_of other) reference m)
@@ -53,8 +54,8 @@ MergeMeetsTwo =
 -- two desks hold.
 abbrev pub MergeSinceMeetsTwo : Type 0
 MergeSinceMeetsTwo =
-    (files : Files) (since mine theirs out : Text) (reference : Reference)
-    → merge_since (Some files) since mine theirs out (Err (conflict reference))
+    (files : Files) (effects : Bool) (since mine theirs out : Text) (reference : Reference)
+    → merge_since (Some files) effects since mine theirs out (Err (conflict reference))
     → (one : DeskSeen) × (other : DeskSeen) × desk_in (Some files) mine (Ok one)
     × desk_in (Some files) theirs (Ok other)
     × HasTwo (λ m. Holds (state_of one) reference m ⊎ Holds (state_of other) reference m)
@@ -63,8 +64,8 @@ MergeSinceMeetsTwo =
 -- hold.
 abbrev pub CarryMeetsTwo : Type 0
 CarryMeetsTwo =
-    (files : Files) (mine theirs out : Text) (reference : Reference)
-    → carry (Some files) mine theirs out (Err (conflict reference))
+    (files : Files) (effects : Bool) (mine theirs out : Text) (reference : Reference)
+    → carry (Some files) effects mine theirs out (Err (conflict reference))
     → (one : DeskSeen) × (other : DeskSeen) × desk_in (Some files) mine (Ok one)
     × desk_in (Some files) theirs (Ok other)
     × HasTwo (λ m. Holds (state_of one) reference m ⊎ Holds (state_of other) reference m)

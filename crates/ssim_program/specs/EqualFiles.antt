@@ -93,4 +93,5 @@ CarriesAsMerges =
     → MayReplace (Some files) out kind.DeskFile
     → desk_in (Some files) mine (Ok one) → desk_in (Some files) theirs (Ok other)
     → one.base ≡ other.base
-    → AreAlike KeepTheSame (carry (Some files) mine theirs out) (merge (Some files) mine theirs out)
+    → AreAlike KeepTheSame (carry (Some files) false mine theirs out)
+    (merge (Some files) false mine theirs out)

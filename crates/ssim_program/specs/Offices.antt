@@ -68,19 +68,20 @@ IsReceived refused desk out names receipts old new = (after : DeskSeen)
     × received (Some old) desk names (Ok (receipts, after))
     × (Some new ≡ with_kept (kept_by (received_files refused out receipts after)) (Some old))
 
--- the event leaves these files; those of `start` are the same with and without its notes
+-- the event leaves these files; those of `start` are the same with and without its notes, and those of
+-- the others with and without the effects
 abbrev pub Leaves : Event → Files → Files → Type 0
 Leaves (StartKept dataset stations out) old new =
     IsDone (start (Some old) false dataset stations out) old new
-Leaves (TakeKept desk out texts) old new = IsDone (take (Some old) desk out texts) old new
+Leaves (TakeKept desk out texts) old new = IsDone (take (Some old) false desk out texts) old new
 Leaves (ReceiveKept refused desk out names receipts) old new =
     IsReceived refused desk out names receipts old new
-Leaves (MergeKept mine theirs out) old new = IsDone (merge (Some old) mine theirs out) old new
+Leaves (MergeKept mine theirs out) old new = IsDone (merge (Some old) false mine theirs out) old new
 Leaves (MergeSinceKept since mine theirs out) old new =
-    IsDone (merge_since (Some old) since mine theirs out) old new
-Leaves (CarryKept mine theirs out) old new = IsDone (carry (Some old) mine theirs out) old new
+    IsDone (merge_since (Some old) false since mine theirs out) old new
+Leaves (CarryKept mine theirs out) old new = IsDone (carry (Some old) false mine theirs out) old new
 Leaves (WithdrawKept desk out references) old new =
-    IsDone (withdraw (Some old) desk out references) old new
+    IsDone (withdraw (Some old) false desk out references) old new
 Leaves Unchanged old new = new ≡ old
 Leaves (Copied from to) old new =
     (bytes : List ℕ) × (file_of old from ≡ Some bytes) × (new ≡ (to, bytes) ∷ old)

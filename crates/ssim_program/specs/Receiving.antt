@@ -230,13 +230,18 @@ places_in files (Some refused) file out names = do
   place ← place_in files out kind.DeskFile
   refused_place files (out ∷ file ∷ names) refused
 
--- The desk in a file receives the files of these names: what became of each text, and the desk
--- afterwards. Its messages are in order of reference.
+-- A desk receives the files of these names: what became of each text, and the desk afterwards. Its
+-- messages are in order of reference.
+abbrev pub received_at : Option Files → List Text → DeskSeen → Answer (List Receipt × DeskSeen)
+received_at files names before =
+    Finds (λ (result : List Receipt × DeskSeen). ReceivesEach files names before result.0 result.1
+    × AreRising result.1.held)
+
+-- the same of the desk in a file
 abbrev pub received : Option Files → Text → List Text → Answer (List Receipt × DeskSeen)
 received files file names = do
   before ← desk_in files file
-  Finds (λ (result : List Receipt × DeskSeen). ReceivesEach files names before result.0 result.1
-      × AreRising result.1.held)
+  received_at files names before
 
 -- the refused texts are kept, if a name is given, and then the desk
 abbrev pub received_files : Option Text → Text → List Receipt → DeskSeen → List Act

@@ -15,3 +15,4 @@ pub mod SomeFlights
 pub mod Splitting
 pub mod Spans
 pub mod Diff
+pub mod Effects

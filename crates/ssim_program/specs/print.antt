@@ -6,6 +6,7 @@ pub mod Shown
 pub mod HistoryRows
 pub mod Listing
 pub mod Difference
+pub mod Effects
 pub mod Blocks
 pub mod Board
 pub mod Calendar

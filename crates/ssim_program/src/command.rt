@@ -40,6 +40,7 @@ pub(crate) mod tidy;
 pub(crate) mod withdraw;
 
 use crate::command::diff::DiffWords;
+use crate::command::merge::MergeWords;
 use crate::command::receive::ReceiveWords;
 use crate::explain::explain;
 use crate::made::{Made, Report};
@@ -96,7 +97,12 @@ pub(crate) fn make<'r, S: Store>(
             stations,
             out,
         } => start::start(alloc, *notes, dataset, stations, out, store),
-        Request::Take { desk, out, texts } => take::take(alloc, desk, out, texts, store),
+        Request::Take {
+            effects,
+            desk,
+            out,
+            texts,
+        } => take::take(alloc, *effects, desk, out, texts, store),
         Request::Receive {
             refused,
             form,
@@ -112,17 +118,31 @@ pub(crate) fn make<'r, S: Store>(
             receive::receive(alloc, &words, desk, out, store)
         }
         Request::Merge {
+            effects,
             since,
             desk,
             other,
             out,
-        } => merge_since::merge_either(alloc, *since, desk, other, out, store),
-        Request::Carry { desk, other, out } => carry::carry(alloc, desk, other, out, store),
+        } => {
+            let words = MergeWords {
+                effects: *effects,
+                desk,
+                other,
+            };
+            merge_since::merge_either(alloc, *since, &words, out, store)
+        }
+        Request::Carry {
+            effects,
+            desk,
+            other,
+            out,
+        } => carry::carry(alloc, *effects, desk, other, out, store),
         Request::Withdraw {
+            effects,
             desk,
             out,
             references,
-        } => withdraw::withdraw(alloc, desk, out, references, store),
+        } => withdraw::withdraw(alloc, *effects, desk, out, references, store),
         Request::Publish {
             from,
             to,

@@ -7,7 +7,7 @@ ghost use Rattle.ssim_program.specs.Files.{Files, IsOpened};
 use crate::data_set::{LIMIT, open_file};
 use crate::refusal::Refusal;
 use crate::store::Store;
-use ssim_desk::{DeskFault, Holdings, Intake};
+use ssim_desk::{DeskFault, Holdings};
 use ssim_records::Source;
 use std::alloc::Global;
 
@@ -24,22 +24,6 @@ pub(crate) fn open_holdings<S: Store>(
 {
     let file = open_file(alloc, name, store)?;
     read_desk(alloc, name, file)
-}
-
-/// What the desk in the file of this name holds, before messages come and go. The errors are those
-/// of `open_holdings`.
-pub(crate) fn open_intake<S: Store>(
-    alloc: Global,
-    name: &str,
-    store: &mut S,
-) -> Result<Intake, Refusal>
-    ensures answer { desk_in (S.files store.old) name.now result }
-    ensures same { S.files store.new ≡ S.files store.old }
-    ensures counted { S.failures store.new ≡ S.failures store.old }
-{
-    let holdings = open_holdings(alloc, name, store)?;
-    let intake = Intake::of(holdings)?;
-    Ok(intake)
 }
 
 /// What the desk holds whose desk file was opened under this name. Returns 91 if the file has more

@@ -6,7 +6,7 @@ ghost use Rattle.ssim_program.specs.internal.Program.{MadeItself, keeps, will};
 ghost use Rattle.ssim_program.specs.print.Paper.{Paper};
 
 use crate::command::split::split_file;
-use crate::command::take::take_texts;
+use crate::command::take::{Taking, take_texts};
 use crate::export::{export_desk, export_part, export_set};
 use crate::hold::keep_content;
 use crate::made::{Kept, Made};
@@ -66,7 +66,19 @@ pub(crate) fn finish<S: Store, W: Write>(
         Made::DataSet(data_set) => export_set(data_set, out),
         Made::Desk(desk) => export_desk(desk, out),
         Made::Part { desk, choice } => export_part(desk, &choice, out),
-        Made::Texts { place, desk, names } => take_texts(alloc, &place, desk, names, store, out),
+        Made::Texts {
+            place,
+            desk,
+            names,
+            effects,
+        } => {
+            let taking = Taking {
+                names,
+                effects,
+                place: &place,
+            };
+            take_texts(alloc, &taking, desk, store, out)
+        }
         Made::Sections { dataset, prefix } => split_file(alloc, dataset, prefix, store, out),
         Made::Reported { lines, .. } => print_all(out, &lines),
     }

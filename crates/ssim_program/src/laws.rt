@@ -83,13 +83,14 @@ pub fn nothing_taken_is_lost()
 /// the chosen messages, what the chosen sub-messages found, and the chapter 7 data set. Or they are
 /// refused for the same: if one is refused and the other is not, memory ran out (90). `withdraw`
 /// prints the same: what became of each reference. So does `carry` of two pairs of equal desk files:
-/// what became of each message.
+/// what became of each message. Nothing is said of these two with `--effects`.
 pub fn equal_desk_files_do_the_same()
     ensures texts { (csv : Bool) (span : SpanTexts) (flights : List Text)
         → DoesTheSame (λ file. Texts csv span file flights) }
     ensures withdraw { (out : Text) (references : List Text)
-        → PrintsTheSame (λ file. Withdraw file out references) }
-    ensures carry { (out : Text) → PrintsTheSameOfPairs (λ desk other. Carry desk other out) }
+        → PrintsTheSame (λ file. Withdraw false file out references) }
+    ensures carry { (out : Text) → PrintsTheSameOfPairs
+        (λ desk other. Carry false desk other out) }
     ensures findings { (form : FindingsForm) (span : SpanTexts) (flights : List Text)
         → DoesTheSame (λ file. Findings form span file flights) }
     ensures export { DoesTheSame Export }

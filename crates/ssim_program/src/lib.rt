@@ -29,6 +29,7 @@ mod content;
 mod content_kind;
 mod data_set;
 mod desk_file;
+mod effects;
 mod explain;
 mod export;
 mod finish;

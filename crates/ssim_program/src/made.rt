@@ -6,7 +6,7 @@ ghost use Rattle.ssim_program.specs.internal.Program.{bytes_of};
 use crate::content::Content;
 use crate::store::Hold;
 use ssim_base::{DataSet, WriteFault};
-use ssim_desk::{Holdings, Intake};
+use ssim_desk::Holdings;
 use ssim_parts::Choice;
 use ssim_records::Sink;
 
@@ -71,11 +71,13 @@ pub(crate) enum Made<'n, H: Hold + Drop> {
         desk: Holdings,
         choice: Choice,
     },
-    /// The files of texts that a desk is to take, and the place of the desk.
+    /// The files of texts that a desk is to take, and the place of the desk. The effects may be to
+    /// be printed.
     Texts {
         place: H,
-        desk: Intake,
+        desk: Holdings,
         names: &'n [&'n str],
+        effects: bool,
     },
     /// The file of a data set of several carriers, which is to be split, and what the names of the
     /// kept files begin with.

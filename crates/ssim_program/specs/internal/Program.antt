@@ -67,8 +67,9 @@ Makes file files answer (made.Desk desk) = (result : Result (List Act) Refusal)
 Makes file files answer (made.Part desk choice) = (result : Result (List Act) Refusal)
     → prints (export_in desk.base.records (chosen_days choice (days_of_desk desk))) result
     → answer result
-Makes file files answer (made.Texts place desk names) = (result : Result (List Act) Refusal)
-    → take_each files (file place) (map (λ t. t.now) names.now) desk result → answer result
+Makes file files answer (made.Texts place desk names effects) = (result : Result (List Act) Refusal)
+    → take_each files effects desk (file place) (map (λ t. t.now) names.now) desk result
+    → answer result
 Makes file files answer (made.Sections dataset prefix) = (result : Result (List Act) Refusal)
     → split files dataset.now prefix.now result → answer result
 
@@ -102,8 +103,8 @@ will file files (made.DataSet set) = prints (export_in set (days_of set))
 will file files (made.Desk desk) = prints (export_in desk.base.records (days_of_desk desk))
 will file files (made.Part desk choice) =
     prints (export_in desk.base.records (chosen_days choice (days_of_desk desk)))
-will file files (made.Texts place desk names) =
-    take_each files (file place) (map (λ t. t.now) names.now) desk
+will file files (made.Texts place desk names effects) =
+    take_each files effects desk (file place) (map (λ t. t.now) names.now) desk
 will file files (made.Sections dataset prefix) = split files dataset.now prefix.now
 
 -- whether the status is to say that something was found, by what was made

@@ -6,12 +6,14 @@ use Rattle.ssim_listing.specs.Rows.{row}
 use Rattle.ssim_mailbox.specs.clauses.Mail.{mail_of}
 use Rattle.ssim_held.specs.Entries.{AreRising, DeskSeen}
 use Rattle.ssim_command_line.specs.Line.{Text}
+use Rattle.ssim_command_line.specs.declared.command_line.ReceiveForm.{ReceiveForm}
 use Rattle.ssim_program.specs.Desks.{desk_in}
 use Rattle.ssim_program.specs.Files.{Files}
 use Rattle.ssim_program.specs.Receiving.{Receipt, Accepted, Refused, Unread, ReceivesEach}
 use Rattle.ssim_program.specs.Receiving.{any_refused, is_refused, is_repeated, is_taken}
 use Rattle.ssim_program.specs.Receiving.{printed_receipts, receipt_names, receipt_row, receipt_text}
 use Rattle.ssim_program.specs.Receiving.{refused_texts, total_text}
+use Rattle.ssim_program.specs.print.Effects.{with_effects}
 use Rattle.ssim_program.specs.declared.command.receive.receipt.Receipt as code
 use Rattle.ssim_program.specs.declared.command.receive.receipt.Printed.{Printed}
 use Rattle.ssim_program.specs.declared.command.receive.receipt.Printed.TheVariants as form
@@ -89,8 +91,8 @@ Adds receives before after old new =
     → AreReceipts csv new (earlier ++ receipts))
 
 -- the desk in a file has received the files of these names: whether some text was refused, the rows
--- or the lines, and the refused texts
-pub record HasReceived (csv : Bool) (files : Option Files) (file : Text) (names : List Text)
+-- or the lines, with the effects if the words ask for them, and the refused texts
+pub record HasReceived (form : ReceiveForm) (files : Option Files) (file : Text) (names : List Text)
     (after : DeskSeen) (found : Bool) (lines refused : List ℕ) : Type 0 where
   pub before : DeskSeen
   pub reads : desk_in files file (Ok before)
@@ -98,5 +100,6 @@ pub record HasReceived (csv : Bool) (files : Option Files) (file : Text) (names 
   pub received : ReceivesEach files names before receipts after
   pub rising : AreRising after.held
   pub found_is : found ≡ any_refused receipts
-  pub lines_are : lines ≡ printed_receipts csv receipts
+  pub lines_are : lines
+      ≡ with_effects form.effects before after (printed_receipts form.csv receipts)
   pub texts_are : refused ≡ refused_texts receipts

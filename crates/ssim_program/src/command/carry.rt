@@ -13,6 +13,7 @@ ghost use Rattle.ssim_program.specs.internal.Program.{MakesOr};
 use crate::command::take::printed;
 use crate::content_kind::ContentKind;
 use crate::desk_file::open_holdings;
+use crate::effects::{before_if, push_effects};
 use crate::hold::hold;
 use crate::made::{Contents, Kept, Made};
 use crate::print::printed_line::{PrintedLine, add_line};
@@ -27,9 +28,11 @@ use std::alloc::Global;
 use std::cmp::Ordering;
 
 /// A desk with those messages of another desk that mean the same in it, a line for each message of
-/// the other desk, and the line with the number of its messages.
+/// the other desk, the line with the number of its messages, and the effects, if the words ask for
+/// them.
 pub(crate) fn carry<'n, S: Store>(
     alloc: Global,
+    effects: bool,
     mine: &str,
     theirs: &str,
     out: &str,
@@ -37,7 +40,7 @@ pub(crate) fn carry<'n, S: Store>(
 ) -> Result<Made<'n, S::Hold>, Refusal>
     requires fresh { IsTrue (S.is_fresh store.now) }
     ensures answer { MakesOr S.Hold.file (S.files store.old)
-        (carry (S.files store.old) mine.now theirs.now out.now) result }
+        (carry (S.files store.old) effects mine.now theirs.now out.now) result }
     ensures same { S.files store.new ≡ S.files store.old }
     ensures counted { S.failures store.new ≡ S.failures store.old }
 {
@@ -47,10 +50,12 @@ pub(crate) fn carry<'n, S: Store>(
     if !are_of_one_airline(&desk, &other) {
         return Err(Refusal::from(DeskFault::OtherBase));
     }
-    let (after, lines) = match carried(alloc, desk, &other) {
+    let before = before_if(alloc, effects, &desk)?;
+    let (after, mut lines) = match carried(alloc, desk, &other) {
         Ok(made) => made,
         Err(refusal) => return Err(refusal),
     };
+    push_effects(alloc, &mut lines, &before, &after)?;
     let contents = Contents::DeskFile(after);
     let kept = Kept { place, contents };
     Ok(Made::Kept { kept, lines })

@@ -8,6 +8,7 @@ ghost use Rattle.ssim_program.specs.internal.Program.{MakesOr};
 use crate::command::start::held_line;
 use crate::content_kind::ContentKind;
 use crate::desk_file::open_holdings;
+use crate::effects::{before_if, push_effects};
 use crate::hold::hold;
 use crate::made::{Contents, Kept, Made};
 use crate::refusal::Refusal;
@@ -15,28 +16,39 @@ use crate::store::Store;
 use ssim_desk::Holdings;
 use std::alloc::Global;
 
-/// A desk that holds what two desks hold, and the line with the number of its messages.
+/// The two desks that are merged, and whether the effects on the first are printed.
+#[derive(Clone, Copy)]
+pub(crate) struct MergeWords<'a> {
+    pub effects: bool,
+    pub desk: &'a str,
+    pub other: &'a str,
+}
+
+/// A desk that holds what two desks hold, the line with the number of its messages, and the effects,
+/// if the words ask for them.
 pub(crate) fn merge<'n, S: Store>(
     alloc: Global,
-    mine: &str,
-    theirs: &str,
+    words: &MergeWords<'_>,
     out: &str,
     store: &mut S,
 ) -> Result<Made<'n, S::Hold>, Refusal>
     requires fresh { IsTrue (S.is_fresh store.now) }
     ensures answer { MakesOr S.Hold.file (S.files store.old)
-        (merge (S.files store.old) mine.now theirs.now out.now) result }
+        (merge (S.files store.old) words.now.effects words.now.desk.now words.now.other.now out.now)
+        result }
     ensures same { S.files store.new ≡ S.files store.old }
     ensures counted { S.failures store.new ≡ S.failures store.old }
 {
     let place = hold(alloc, out, ContentKind::DeskFile, store)?;
-    let mut desk = open_holdings(alloc, mine, store)?;
-    let other = open_holdings(alloc, theirs, store)?;
+    let mut desk = open_holdings(alloc, words.desk, store)?;
+    let other = open_holdings(alloc, words.other, store)?;
+    let before = before_if(alloc, words.effects, &desk)?;
     match merge_desks(&mut desk, &other) {
         Ok(()) => {}
         Err(refusal) => return Err(refusal),
     }
-    let lines = held_line(alloc, desk.held().len())?;
+    let mut lines = held_line(alloc, desk.held().len())?;
+    push_effects(alloc, &mut lines, &before, &desk)?;
     let contents = Contents::DeskFile(desk);
     let kept = Kept { place, contents };
     Ok(Made::Kept { kept, lines })

@@ -9,11 +9,12 @@ ghost use Rattle.ssim_program.specs.MergingSince.{older_in};
 ghost use Rattle.ssim_program.specs.internal.MergingSince.{IsAmong};
 ghost use Rattle.ssim_program.specs.internal.Program.{MakesOr};
 
-use crate::command::merge::{merge, merge_desks};
+use crate::command::merge::{MergeWords, merge, merge_desks};
 use crate::command::start::held_line;
 use crate::content_kind::ContentKind;
 use crate::data_set::load_file;
 use crate::desk_file::{open_holdings, read_desk};
+use crate::effects::{before_if, push_effects};
 use crate::hold::hold;
 use crate::made::{Contents, Kept, Made};
 use crate::refusal::Refusal;
@@ -24,26 +25,26 @@ use ssim_values::Memory;
 use std::alloc::Global;
 
 /// A desk that holds what two desks hold, without the messages that one of them has withdrawn since
-/// the older desk in the file `since`, and the line with the number of its messages. If that file is
-/// empty, nothing was withdrawn.
+/// the older desk in the file `since`, the line with the number of its messages, and the effects on the
+/// first desk, if the words ask for them. If that file is empty, nothing was withdrawn.
 pub(crate) fn merge_since<'n, S: Store>(
     alloc: Global,
     since: &str,
-    mine: &str,
-    theirs: &str,
+    words: &MergeWords<'_>,
     out: &str,
     store: &mut S,
 ) -> Result<Made<'n, S::Hold>, Refusal>
     requires fresh { IsTrue (S.is_fresh store.now) }
     ensures answer { MakesOr S.Hold.file (S.files store.old)
-        (merge_since (S.files store.old) since.now mine.now theirs.now out.now) result }
+        (merge_since (S.files store.old) words.now.effects since.now words.now.desk.now
+        words.now.other.now out.now) result }
     ensures same { S.files store.new ≡ S.files store.old }
     ensures counted { S.failures store.new ≡ S.failures store.old }
 {
     let place = hold(alloc, out, ContentKind::DeskFile, store)?;
     let old = open_older(alloc, since, store)?;
-    let desk = open_holdings(alloc, mine, store)?;
-    let other = open_holdings(alloc, theirs, store)?;
+    let desk = open_holdings(alloc, words.desk, store)?;
+    let other = open_holdings(alloc, words.other, store)?;
     if !is_over(&old, &desk) {
         return Err(Refusal::from(DeskFault::OtherBase));
     }
@@ -51,7 +52,9 @@ pub(crate) fn merge_since<'n, S: Store>(
         Ok(after) => after,
         Err(refusal) => return Err(refusal),
     };
-    let lines = held_line(alloc, after.held().len())?;
+    let mut lines = held_line(alloc, after.held().len())?;
+    let before = before_if(alloc, words.effects, &desk)?;
+    push_effects(alloc, &mut lines, &before, &after)?;
     let contents = Contents::DeskFile(after);
     let kept = Kept { place, contents };
     Ok(Made::Kept { kept, lines })
@@ -61,20 +64,20 @@ pub(crate) fn merge_since<'n, S: Store>(
 pub(crate) fn merge_either<'n, S: Store>(
     alloc: Global,
     since: Option<&str>,
-    mine: &str,
-    theirs: &str,
+    words: &MergeWords<'_>,
     out: &str,
     store: &mut S,
 ) -> Result<Made<'n, S::Hold>, Refusal>
     requires fresh { IsTrue (S.is_fresh store.now) }
-    ensures answer { MakesOr S.Hold.file (S.files store.old) (merge_either (S.files store.old)
-        (option_map (λ s. s.now) since.entry) mine.now theirs.now out.now) result }
+    ensures answer { MakesOr S.Hold.file (S.files store.old)
+        (merge_either (S.files store.old) words.now.effects (option_map (λ s. s.now) since.entry)
+        words.now.desk.now words.now.other.now out.now) result }
     ensures same { S.files store.new ≡ S.files store.old }
     ensures counted { S.failures store.new ≡ S.failures store.old }
 {
     match since {
-        None => merge(alloc, mine, theirs, out, store),
-        Some(older) => merge_since(alloc, older, mine, theirs, out, store),
+        None => merge(alloc, words, out, store),
+        Some(older) => merge_since(alloc, older, words, out, store),
     }
 }
 

@@ -15,7 +15,7 @@ ghost use Rattle.ssim_program.specs.declared.made.Contents.TheVariants as conten
 
 use crate::command::receive::mailboxes::receive_files;
 use crate::content_kind::ContentKind;
-use crate::desk_file::open_intake;
+use crate::effects::{open_before, push_effects};
 use crate::hold::hold;
 use crate::made::{Contents, Kept, Made};
 use crate::refusal::Refusal;
@@ -39,7 +39,7 @@ struct Received {
     desk: Holdings,
     /// Whether a text was refused, or a file was not read.
     found: bool,
-    /// What became of each text, as rows or as lines.
+    /// What became of each text, as rows or as lines, and the effects, if the words ask for them.
     lines: Vec<u8>,
     /// The refused texts.
     refused: Vec<u8>,
@@ -48,25 +48,26 @@ struct Received {
 /// Tries the texts of these mailbox files at the desk in a file.
 fn received_by<S: Store>(
     alloc: Global,
-    csv: bool,
+    form: ReceiveForm,
     file: &str,
     names: &[&str],
     store: &mut S,
 ) -> Result<Received, Refusal>
-    ensures ok { IfOk result (λ r. HasReceived csv (S.files store.old) file.now
+    ensures ok { IfOk result (λ r. HasReceived form (S.files store.old) file.now
         (map (λ t. t.now) names.now) r.desk r.found r.lines.items r.refused.items) }
     ensures err { IfErr result (λ why. received (S.files store.old) file.now
         (map (λ t. t.now) names.now) (Err why)) }
     ensures same { S.files store.new ≡ S.files store.old }
     ensures counted { S.failures store.new ≡ S.failures store.old }
 {
-    let mut desk = open_intake(alloc, file, store)?;
-    let receipts = receive_files(alloc, csv, &mut desk, names, store)?;
+    let (mut desk, before) = open_before(alloc, form.effects, file, store)?;
+    let receipts = receive_files(alloc, form.csv, &mut desk, names, store)?;
     let found = receipts.has_refused();
-    let (lines, refused) = receipts.finish()?;
+    let (mut lines, refused) = receipts.finish()?;
     let desk = desk.finish()?;
     // No effect at run time. The proof reads from this use that the messages are in order.
     let _ = desk.held();
+    push_effects(alloc, &mut lines, &before, &desk)?;
     Ok(Received {
         desk,
         found,
@@ -197,7 +198,7 @@ pub(crate) fn receive<'n, S: Store>(
     ensures counted { S.failures store.new ≡ S.failures store.old }
 {
     let places = hold_places(alloc, words.refused, file, out, words.texts, store)?;
-    let received = received_by(alloc, words.form.csv, file, words.texts, store)?;
+    let received = received_by(alloc, words.form, file, words.texts, store)?;
     let lines = received.lines;
     let refused = kept_texts(places.refused, received.refused);
     let kept = Kept {

@@ -8,7 +8,7 @@ ghost use Rattle.ssim_program.specs.Answers.{withdraw};
 ghost use Rattle.ssim_program.specs.internal.Program.{MakesOr};
 
 use crate::content_kind::ContentKind;
-use crate::desk_file::open_intake;
+use crate::effects::{open_before, push_effects};
 use crate::hold::hold;
 use crate::made::{Contents, Kept, Made};
 use crate::print::printed_line::{PrintedLine, add_line};
@@ -18,9 +18,11 @@ use ssim_desk::Intake;
 use ssim_text::Reference;
 use std::alloc::Global;
 
-/// A line for each of these references, and then the desk in a file without their messages.
+/// A line for each of these references, the effects, if the words ask for them, and then the desk in a
+/// file without their messages.
 pub(crate) fn withdraw<'n, S: Store>(
     alloc: Global,
+    effects: bool,
     file: &str,
     out: &str,
     words: &[&str],
@@ -28,16 +30,18 @@ pub(crate) fn withdraw<'n, S: Store>(
 ) -> Result<Made<'n, S::Hold>, Refusal>
     requires fresh { IsTrue (S.is_fresh store.now) }
     ensures answer { MakesOr S.Hold.file (S.files store.old)
-        (withdraw (S.files store.old) file.now out.now (map (λ t. t.now) words.now)) result }
+        (withdraw (S.files store.old) effects file.now out.now (map (λ t. t.now) words.now))
+        result }
     ensures same { S.files store.new ≡ S.files store.old }
     ensures counted { S.failures store.new ≡ S.failures store.old }
 {
     let place = hold(alloc, out, ContentKind::DeskFile, store)?;
-    let mut desk = open_intake(alloc, file, store)?;
-    let lines = withdraw_each(alloc, &mut desk, words)?;
+    let (mut desk, before) = open_before(alloc, effects, file, store)?;
+    let mut lines = withdraw_each(alloc, &mut desk, words)?;
     let desk = desk.finish()?;
     // No effect at run time. The proof reads from this use that the messages are in order.
     let _ = desk.held();
+    push_effects(alloc, &mut lines, &before, &desk)?;
     let contents = Contents::DeskFile(desk);
     let kept = Kept { place, contents };
     Ok(Made::Printed {

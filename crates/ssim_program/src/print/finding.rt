@@ -120,7 +120,7 @@ fn has_dates(finding: &Finding) -> bool
 }
 
 /// Whether a sub-message acted on no date, or did not act on one of its dates.
-fn fails(finding: &Finding) -> bool
+pub(crate) fn fails(finding: &Finding) -> bool
     ensures { result ≡ fails finding.now }
 {
     finding.acted == 0
@@ -131,7 +131,7 @@ fn fails(finding: &Finding) -> bool
 }
 
 /// Adds the line of a sub-message.
-fn push_finding(lines: &mut Vec<u8>, found: &FindingLine) -> Result<(), Memory>
+pub(crate) fn push_finding(lines: &mut Vec<u8>, found: &FindingLine) -> Result<(), Memory>
     ensures { OnOk result (lines.new.items ≡ lines.old.items ++ line (finding_text found.now)) }
 {
     push_sub(lines, found)?;

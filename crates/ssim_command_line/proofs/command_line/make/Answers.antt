@@ -1,31 +1,23 @@
 -- The values of a command with texts are two or more.
-use Rattle.std.proofs.Common.{◌≡◌, codes, refl, arith, rules, option_map}
+use Rattle.std.proofs.Common.{◌≡◌, codes, refl, arith, rules}
 use Rattle.clap.specs.Words.{found_of, rows_of}
-use Rattle.ssim_command_line.specs.Line.{History, Receive, Show, Take, Withdraw}
+use Rattle.ssim_command_line.specs.Line.{History, Show, Take, Withdraw}
 use Rattle.ssim_command_line.proofs.Rows.{several_made}
 use Rattle.ssim_command_line.proofs.command_line.make.Goals as goal
 
 pub returns-in_ok-to_vec-in-len2-up : goal.returns-in_ok-to_vec-in-len2-up
 returns-in_ok-to_vec-in-len2-up c =
     let is : c.args.name.now ≡ codes "take" = search rules in
-    several_made Take _ (codes "take") (rows_of (found_of c.args.inner.now)) _ _ _ _ is (λ vs. refl)
-    c.in-len3-up.len_at_least
+    several_made (Take c.effects_of.result) _ (codes "take") (rows_of (found_of c.args.inner.now)) _ _ _ _ is
+    (λ vs. rw c.effects_of.ensures refl) c.in-len3-up.len_at_least
     (c.in_ok-to_vec-in-len2-up.ensures.items_if_clones_equal (λ x y e. e)) (omega arith)
-
-pub returns-in_ok-to_vec-in-len2-up-values : goal.returns-in_ok-to_vec-in-len2-up-values
-returns-in_ok-to_vec-in-len2-up-values c =
-    let is : c.args.name.now ≡ codes "receive" = search rules in
-    several_made (Receive (option_map (λ r. r.now) c.refused_of.result) c.receive_form_of.result) _
-    (codes "receive") (rows_of (found_of c.args.inner.now)) _ _ _ _ is
-    (λ vs. rw c.refused_of.ensures (rw c.receive_form_of.ensures refl))
-    c.in-len3-up-values.len_at_least
-    (c.in_ok-to_vec-in-len2-up-values.ensures.items_if_clones_equal (λ x y e. e)) (omega arith)
 
 pub returns-in_ok-to_vec-in-len2-up-values-2 : goal.returns-in_ok-to_vec-in-len2-up-values-2
 returns-in_ok-to_vec-in-len2-up-values-2 c =
     let is : c.args.name.now ≡ codes "withdraw" = search rules in
-    several_made Withdraw _ (codes "withdraw") (rows_of (found_of c.args.inner.now)) _ _ _ _ is
-    (λ vs. refl) c.in-len3-up-values-2.len_at_least
+    several_made (Withdraw c.effects_of-in-len2-up-values-2.result) _ (codes "withdraw")
+    (rows_of (found_of c.args.inner.now)) _ _ _ _ is
+    (λ vs. rw c.effects_of-in-len2-up-values-2.ensures refl) c.in-len3-up-values-2.len_at_least
     (c.in_ok-to_vec-in-len2-up-values-2.ensures.items_if_clones_equal (λ x y e. e)) (omega arith)
 
 pub returns-in_ok-to_vec-in-len2-up-values-3 : goal.returns-in_ok-to_vec-in-len2-up-values-3

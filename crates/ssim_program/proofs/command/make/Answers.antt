@@ -34,7 +34,7 @@ lines_of file files answer (Ok v) (Ok (made.Printed found lines refused kept)) i
 lines_of file files answer (Ok v) (Ok (made.DataSet set)) is same = absurd same
 lines_of file files answer (Ok v) (Ok (made.Desk desk)) is same = absurd same
 lines_of file files answer (Ok v) (Ok (made.Part desk choice)) is same = absurd same
-lines_of file files answer (Ok v) (Ok (made.Texts place desk names)) is same = absurd same
+lines_of file files answer (Ok v) (Ok (made.Texts place desk names effects)) is same = absurd same
 lines_of file files answer (Ok v) (Ok (made.Sections dataset prefix)) is same = absurd same
 lines_of file files answer (Ok v) (Err why) is same = absurd same
 lines_of file files answer (Err why) (Ok m) is same = absurd same
@@ -55,7 +55,7 @@ report_of file files asked answer (Ok report) (Ok (made.Printed found lines refu
 report_of file files asked answer (Ok report) (Ok (made.DataSet set)) is same = absurd same
 report_of file files asked answer (Ok report) (Ok (made.Desk desk)) is same = absurd same
 report_of file files asked answer (Ok report) (Ok (made.Part desk choice)) is same = absurd same
-report_of file files asked answer (Ok report) (Ok (made.Texts place desk names)) is same = absurd same
+report_of file files asked answer (Ok report) (Ok (made.Texts place desk names effects)) is same = absurd same
 report_of file files asked answer (Ok report) (Ok (made.Sections dataset prefix)) is same = absurd same
 report_of file files asked answer (Ok report) (Err why) is same = absurd same
 report_of file files asked answer (Err why) (Ok m) is same = absurd same
@@ -73,7 +73,7 @@ pub returns-in-Take-clause-answer : goal.returns-in-Take-clause-answer
 returns-in-Take-clause-answer g c = let old = g.S.Store.files c.args.store.now in
     made_of _ _ _ _ _ c.in-Take.is
     (subst (λ (words : List (Bor (List ℕ))). MakesOr g.S.Hold.Hold.file old
-    (answer.take old c.in-Take.desk.now c.in-Take.out.now (map (λ t. t.now) words))
+    (answer.take old c.in-Take.effects c.in-Take.desk.now c.in-Take.out.now (map (λ t. t.now) words))
     c.take.result) c.deref.ensures.value c.take.ensures.answer)
 
 pub returns-in-Receive-clause-answer : goal.returns-in-Receive-clause-answer
@@ -94,7 +94,7 @@ pub returns-in-Withdraw-clause-answer : goal.returns-in-Withdraw-clause-answer
 returns-in-Withdraw-clause-answer g c = let old = g.S.Store.files c.args.store.now in
     made_of _ _ _ _ _ c.in-Withdraw.is
     (subst (λ (words : List (Bor (List ℕ))). MakesOr g.S.Hold.Hold.file old
-    (answer.withdraw old c.in-Withdraw.desk.now c.in-Withdraw.out.now (map (λ t. t.now) words))
+    (answer.withdraw old c.in-Withdraw.effects c.in-Withdraw.desk.now c.in-Withdraw.out.now (map (λ t. t.now) words))
     c.withdraw.result) c.deref-in-Withdraw.ensures.value c.withdraw.ensures.answer)
 
 pub returns-in-Publish-clause-answer : goal.returns-in-Publish-clause-answer

@@ -8,6 +8,7 @@ use Rattle.ssim_program.specs.Acts.{Keep, Print}
 use Rattle.ssim_program.specs.Desks.{desk_in, held_line}
 use Rattle.ssim_program.specs.Files.{Files}
 use Rattle.ssim_program.specs.MergingSince.{IsOver, older_in}
+use Rattle.ssim_program.specs.print.Effects.{with_effects}
 use Rattle.ssim_program.specs.declared.refusal.Refusal.{Refusal}
 use Rattle.ssim_program.specs.declared.refusal.Refusal.TheVariants as refused
 use Rattle.ssim_program.proofs.command.merge_since.merge_since.Goals as goal
@@ -27,7 +28,7 @@ returns-in_err-desk-clause-answer g c =
         c.in_ok-old.old,
         older,
         inl
-            (subst (λ (f : Option Files). desk_in f c.args.mine.now (Err why)) same
+            (subst (λ (f : Option Files). desk_in f c.args.words.now.desk.now (Err why)) same
             c.in_err-desk.ensures.answer),
       ),
     ))
@@ -44,7 +45,7 @@ returns-in_err-other-clause-answer g c =
     subst (λ (f : Option Files). older_in f c.args.since.now (Ok c.in_ok-old.old))
     c.hold.ensures.same c.in_ok-old.ensures.answer in
     let read =
-    subst (λ (f : Option Files). desk_in f c.args.mine.now (Ok c.in_ok-desk.desk)) once
+    subst (λ (f : Option Files). desk_in f c.args.words.now.desk.now (Ok c.in_ok-desk.desk)) once
     c.in_ok-desk.ensures.answer in
     rw is (inr (
       tt,
@@ -56,7 +57,7 @@ returns-in_err-other-clause-answer g c =
           c.in_ok-desk.desk,
           read,
           inl
-              (subst (λ (f : Option Files). desk_in f c.args.theirs.now (Err why)) same
+              (subst (λ (f : Option Files). desk_in f c.args.words.now.other.now (Err why)) same
               c.in_err-other.ensures.answer),
         ),
       ),
@@ -70,10 +71,10 @@ returns-then-not-is_over-clause-answer g c =
     subst (λ (f : Option Files). older_in f c.args.since.now (Ok c.in_ok-old.old))
     c.hold.ensures.same c.in_ok-old.ensures.answer in
     let read =
-    subst (λ (f : Option Files). desk_in f c.args.mine.now (Ok c.in_ok-desk.desk)) once
+    subst (λ (f : Option Files). desk_in f c.args.words.now.desk.now (Ok c.in_ok-desk.desk)) once
     c.in_ok-desk.ensures.answer in
     let theirs =
-    subst (λ (f : Option Files). desk_in f c.args.theirs.now (Ok c.in_ok-other.other)) same
+    subst (λ (f : Option Files). desk_in f c.args.words.now.other.now (Ok c.in_ok-other.other)) same
     c.in_ok-other.ensures.answer in
     let apart : IsOver c.in_ok-old.old c.in_ok-desk.desk → ⊥ =
     λ over. true≢false (sym (c.is_over.ensures.1 over) ∙ c.if-not-is_over.true) in
@@ -96,10 +97,10 @@ returns-in-Err-clause-answer g c =
     subst (λ (f : Option Files). older_in f c.args.since.now (Ok c.in_ok-old.old))
     c.hold.ensures.same c.in_ok-old.ensures.answer in
     let read =
-    subst (λ (f : Option Files). desk_in f c.args.mine.now (Ok c.in_ok-desk.desk)) once
+    subst (λ (f : Option Files). desk_in f c.args.words.now.desk.now (Ok c.in_ok-desk.desk)) once
     c.in_ok-desk.ensures.answer in
     let theirs =
-    subst (λ (f : Option Files). desk_in f c.args.theirs.now (Ok c.in_ok-other.other)) same
+    subst (λ (f : Option Files). desk_in f c.args.words.now.other.now (Ok c.in_ok-other.other)) same
     c.in_ok-other.ensures.answer in
     let over = c.is_over.ensures.0 c.if-not-is_over.false in
     inr (
@@ -128,10 +129,10 @@ returns-in_err-lines-clause-answer g c =
     subst (λ (f : Option Files). older_in f c.args.since.now (Ok c.in_ok-old.old))
     c.hold.ensures.same c.in_ok-old.ensures.answer in
     let read =
-    subst (λ (f : Option Files). desk_in f c.args.mine.now (Ok c.in_ok-desk.desk)) once
+    subst (λ (f : Option Files). desk_in f c.args.words.now.desk.now (Ok c.in_ok-desk.desk)) once
     c.in_ok-desk.ensures.answer in
     let theirs =
-    subst (λ (f : Option Files). desk_in f c.args.theirs.now (Ok c.in_ok-other.other)) same
+    subst (λ (f : Option Files). desk_in f c.args.words.now.other.now (Ok c.in_ok-other.other)) same
     c.in_ok-other.ensures.answer in
     let over = c.is_over.ensures.0 c.if-not-is_over.false in
     rw is (inr (
@@ -152,6 +153,16 @@ returns-in_err-lines-clause-answer g c =
       ),
     ))
 
+pub returns-in_err-before-clause-answer : goal.returns-in_err-before-clause-answer
+returns-in_err-before-clause-answer g c =
+    let err = err_from_is_err_and c.from_residual-in_err-before.result c.from_residual-in_err-before.ensures.1 in
+    let is : c.from_residual-in_err-before.result ≡ Err refused.Memory = err.1 ∙ ap (λ (e : Refusal). Err e) err.2 in rw is (inl (inl refl))
+
+pub returns-in_err-push_effects-clause-answer : goal.returns-in_err-push_effects-clause-answer
+returns-in_err-push_effects-clause-answer g c =
+    let err = err_from_is_err_and c.from_residual-in_err-push_effects.result c.from_residual-in_err-push_effects.ensures.1 in
+    let is : c.from_residual-in_err-push_effects.result ≡ Err refused.Memory = err.1 ∙ ap (λ (e : Refusal). Err e) err.2 in rw is (inl (inl refl))
+
 pub returns-clause-answer : goal.returns-clause-answer
 returns-clause-answer g c =
     let once = c.open_older.ensures.same ∙ c.hold.ensures.same in
@@ -160,15 +171,21 @@ returns-clause-answer g c =
     subst (λ (f : Option Files). older_in f c.args.since.now (Ok c.in_ok-old.old))
     c.hold.ensures.same c.in_ok-old.ensures.answer in
     let read =
-    subst (λ (f : Option Files). desk_in f c.args.mine.now (Ok c.in_ok-desk.desk)) once
+    subst (λ (f : Option Files). desk_in f c.args.words.now.desk.now (Ok c.in_ok-desk.desk)) once
     c.in_ok-desk.ensures.answer in
     let theirs =
-    subst (λ (f : Option Files). desk_in f c.args.theirs.now (Ok c.in_ok-other.other)) same
+    subst (λ (f : Option Files). desk_in f c.args.words.now.other.now (Ok c.in_ok-other.other)) same
     c.in_ok-other.ensures.answer in
     let over = c.is_over.ensures.0 c.if-not-is_over.false in
     let after = c.in-Ok.after in
-    let lines : c.in_ok-lines.lines.items ≡ held_line (length after.held) =
-    c.in_ok-lines.ensures ∙ ap held_line (ap length c.held.ensures.value) in (
+    let effects = c.args.words.now.effects in
+    let held : c.in_ok-lines.lines.items ≡ held_line (length after.held) =
+    c.in_ok-lines.ensures ∙ ap held_line (ap length c.held.ensures.value) in
+    let lines
+    : c.push_effects.new.lines.items ≡ with_effects effects c.in_ok-desk.desk after
+    (held_line (length after.held)) =
+    c.in_ok-push_effects.ensures effects c.in_ok-desk.desk c.in_ok-before.ensures
+    ∙ ap (with_effects effects c.in_ok-desk.desk after) held in (
       tt,
       c.in_ok-place.ensures.held,
       (

@@ -9,6 +9,6 @@ abbrev pub invariant-loop-name : goal.invariant-loop-name
 invariant-loop-name g l = record {
   files : g.S.Store.files l.store ≡ g.S.Store.files l.fn.store;
   through : (after : World) (r : Result (Unit {0}) Refusal)
-      → Does (take_each (g.S.Store.files l.fn.store) (g.S.Hold.Hold.file l.fn.place) (drop l.name-index (map (λ t. t.now) l.names)) l.desk) (world (g.S.Store.files l.store) (g.S.Store.failures l.store) l.out) after r
-      → Does (take_each (g.S.Store.files l.fn.store) (g.S.Hold.Hold.file l.fn.place) (map (λ t. t.now) l.names) l.fn.desk) (world (g.S.Store.files l.fn.store) (g.S.Store.failures l.fn.store) l.fn.out) after r;
+      → Does (take_each (g.S.Store.files l.fn.store) l.taking.effects l.fn.desk (g.S.Hold.Hold.file l.taking.place.now) (drop l.name-index (map (λ t. t.now) l.taking.names.now)) l.intake) (world (g.S.Store.files l.store) (g.S.Store.failures l.store) l.out) after r
+      → Does (take_each (g.S.Store.files l.fn.store) l.taking.effects l.fn.desk (g.S.Hold.Hold.file l.taking.place.now) (map (λ t. t.now) l.taking.names.now) l.fn.desk) (world (g.S.Store.files l.fn.store) (g.S.Store.failures l.fn.store) l.fn.out) after r;
 }
