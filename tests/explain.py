@@ -217,10 +217,14 @@ def known_texts():
 
 
 def known_answers(program):
-    """The line before the last of what is printed of each such text, and what docs/FORMATS.md says of it."""
+    """The line before the last of what is printed of each such text or file of several carriers, and what docs/FORMATS.md says of it."""
     known = {cell: words for cell, words in rows_from("docs/FORMATS.md", "| Refused | `known` |")}
-    for cell, data in known_texts():
-        yield f"a text refused {cell}", f"known: {known[cell.replace('`', '')]}", printed(program, "-", data).splitlines()[-2]
+    records = vectors()
+    h, c, leg, t = (records[name] for name in ("header", "carrier", "leg", "trailer"))
+    carriers = "38, or 11 at a record that begins with `2`"
+    several = [(carriers, h + c + leg + over(t, 194, b"C")), (carriers, h + c + leg + c + leg + t)]
+    for cell, data in [*known_texts(), *several]:
+        yield f"a file refused {cell}", f"known: {known[cell.replace('`', '')]}", printed(program, "-", data).splitlines()[-2]
 
 
 def named_answers(program, rows):

@@ -3,7 +3,8 @@
 //!
 //! - [`explanation_of`]: the [`Explanation`] of a refusal by its number; [`words_on`]: its lines.
 //! - [`words_on_record`]: the lines on a record of a data set, and on the field that is refused at a
-//!   column; [`words_on_overflow`]: on the overflow of its itinerary variation;
+//!   column; [`words_on_overflow`]: on the overflow of its itinerary variation; [`words_on_type`] and
+//!   [`words_on_continuation`]: on a record of another carrier, and the trailer before it;
 //!   [`words_on_overlap`]: on two records with a common date.
 //! - [`words_on_line`]: those on a line of a text, a station table or a script;
 //!   [`words_on_offset`]: on an element of a desk file.
@@ -25,4 +26,4 @@ mod texts;
 pub use explanation::{Explanation, explanation_of, words_on};
 pub use line_words::{words_on_line, words_on_offset};
 pub use overlap::words_on_overlap;
-pub use record_words::{words_on_overflow, words_on_record};
+pub use record_words::{words_on_continuation, words_on_overflow, words_on_record, words_on_type};

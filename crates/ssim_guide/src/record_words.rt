@@ -4,6 +4,8 @@ use crate::fields::field_at;
 use crate::lines::{push_line, push_number, push_shown};
 use std::alloc::{AllocError, Global};
 
+const SEVERAL_CARRIERS: &str = "a file of several carriers: split divides it";
+
 /// The lines on the record with this number, from 1: its bytes, and of the field that is refused at
 /// the column its name, its columns, what is there, and what is allowed there. There are none if the
 /// data set ends before the record.
@@ -31,6 +33,28 @@ pub fn words_on_overflow(alloc: Global, bytes: &[u8], number: u64) -> Result<Vec
         _ => 128,
     };
     words_on_record(alloc, bytes, number, Some(column))
+}
+
+/// The lines on the record with this number, whose type is invalid in its place: its bytes, and if it is
+/// a carrier record, what is known of the file.
+pub fn words_on_type(alloc: Global, bytes: &[u8], number: u64) -> Result<Vec<u8>, AllocError> {
+    let mut lines = words_on_record(alloc, bytes, number, None)?;
+    if let Some([b'2', ..]) = record_at(bytes, number) {
+        push_line(&mut lines, "known", SEVERAL_CARRIERS)?;
+    }
+    Ok(lines)
+}
+
+/// The lines on the trailer with this number, after which another carrier is to follow: its bytes, the
+/// field that says so, and what is known of the file.
+pub fn words_on_continuation(
+    alloc: Global,
+    bytes: &[u8],
+    number: u64,
+) -> Result<Vec<u8>, AllocError> {
+    let mut lines = words_on_record(alloc, bytes, number, Some(194))?;
+    push_line(&mut lines, "known", SEVERAL_CARRIERS)?;
+    Ok(lines)
 }
 
 /// Adds the lines on the field of a record that is refused at the column.

@@ -21,8 +21,10 @@ use crate::rehearse::script::Script;
 use ssim_base::{BaseFault, BaseRefusal, Place, StationFault, Stations};
 use ssim_desk::{DeskFault, Holdings};
 use ssim_guide::{
-    words_on_line, words_on_offset, words_on_overflow, words_on_overlap, words_on_record,
+    words_on_continuation, words_on_line, words_on_offset, words_on_overflow, words_on_overlap,
+    words_on_record, words_on_type,
 };
+use ssim_records::RecordFault;
 use ssim_text::{TextFault, decode};
 use ssim_values::Memory;
 use std::alloc::{AllocError, Global};
@@ -223,8 +225,14 @@ fn words_on_refused(
         Refusal::DataSet(BaseFault::Refused(_, BaseRefusal::Overflow)) => {
             words_on_overflow(alloc, bytes, record)
         }
+        Refusal::DataSet(BaseFault::Refused(_, BaseRefusal::Continuation)) => {
+            words_on_continuation(alloc, bytes, record)
+        }
         Refusal::DataSet(BaseFault::Refused(_, why)) => {
             words_on_record(alloc, bytes, record, column_of(*why))
+        }
+        Refusal::DataSet(BaseFault::Read(RecordFault::BadType { .. })) => {
+            words_on_type(alloc, bytes, record)
         }
         _ => words_on_record(alloc, bytes, record, None),
     }
@@ -235,7 +243,6 @@ fn column_of(refusal: BaseRefusal) -> Option<usize> {
     match refusal {
         BaseRefusal::OtherAirline => Some(3),
         BaseRefusal::Frequency => Some(36),
-        BaseRefusal::Continuation => Some(194),
         _ => None,
     }
 }
