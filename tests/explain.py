@@ -4,7 +4,8 @@
 docs/REFUSALS.md has a row for each refusal, whose name, meaning and remedy `explain` prints. No other number has a refusal. Of a name, in
 any case, the same is printed as of the number, and of a line that a command printed that line. A file is explained for each number that a file alone may be refused by: the first line has the place, the second the meaning, the
 third what is there, and the last what to do. The byte 1 in any column of any record is explained by the field that it makes invalid. Files
-of other programs are named, and what other systems take of texts is known, as docs/FORMATS.md has them. The last line is 'N passed, M failed'. With `page` the meanings and remedies of the
+of other programs are named, and what other systems take of texts is known, as docs/FORMATS.md has them. What `--explain` prints after a
+refusal is tried for each command (tests/reasons.py). The last line is 'N passed, M failed'. With `page` the meanings and remedies of the
 rows are written as `explain` prints them, and nothing is compared.
 """
 import gzip
@@ -16,6 +17,7 @@ import sys
 import zipfile
 
 from cases import vectors
+from reasons import reasons
 
 TOP = os.path.dirname(os.path.dirname(os.path.abspath(__file__)))
 PAGE = "docs/REFUSALS.md"
@@ -276,6 +278,7 @@ def main():
     answers += mailbox_answers(program)
     answers += known_answers(program)
     answers += named_answers(program, rows)
+    answers += reasons(program)
     passed = failed = 0
     for name, good, got in columns_explained(program):
         passed, failed = passed + good, failed + (not good)

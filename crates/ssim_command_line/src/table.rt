@@ -60,6 +60,8 @@ The commands by what they are for:
   also:       blame, info, stations, explain, rehearse
 
 For each file that is read, - is standard input.
+With --explain before COMMAND, or if SSIMDESK_EXPLAIN is set and not empty, more
+lines come after that of a refusal: the file or the word, and what to do.
 Exit status: 0 if the command was done; 1 if it was refused, with a line
 'refused', the number, the name and the place on standard error ('ssimdesk
 explain NUMBER' says more); 2 if the words are no command; 3 if the command was

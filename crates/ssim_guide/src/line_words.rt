@@ -29,6 +29,13 @@ pub fn words_on_line(
     Ok(lines)
 }
 
+/// The line on a word of a command line.
+pub fn words_on_word(alloc: Global, word: &str) -> Result<Vec<u8>, AllocError> {
+    let mut lines = Vec::new(alloc);
+    push_shown(&mut lines, "word", word.as_bytes())?;
+    Ok(lines)
+}
+
 /// The lines on the element of a desk file that begins at this offset: its first line, or that the
 /// file ends there.
 pub fn words_on_offset(alloc: Global, bytes: &[u8], offset: u64) -> Result<Vec<u8>, AllocError> {

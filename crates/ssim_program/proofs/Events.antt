@@ -19,7 +19,7 @@ use Rattle.ssim_program.specs.Offices.{WithdrawKept, Unchanged, Came, AllCame}
 use Rattle.ssim_program.specs.Receiving.{Receipt, any_refused, printed_receipts, received_files}
 use Rattle.ssim_program.specs.Receiving.{refused_texts}
 use Rattle.ssim_program.specs.Desks.{held_line}
-use Rattle.ssim_program.specs.Runs.{Runs}
+use Rattle.ssim_program.specs.Runs.{Runs, RunsPlainly, command_words}
 use Rattle.ssim_program.specs.World.{World}
 use Rattle.ssim_program.specs.print.Effects.{with_effects}
 use Rattle.ssim_program.specs.print.Paper.{Paper}
@@ -355,7 +355,8 @@ record Called (words : List Text) (old : Files) (now : Option Files) : Type 0 wh
   leaves : Leaves event old files
   at : now ≡ Some files
 
-called_line : (words : List Text) (l : Line) (old new : Files) (now : Option Files) → Names words l
+called_line : (words : List Text) (l : Line) (old new : Files) (now : Option Files)
+    → Names (command_words words) l
     → now ≡ Some new → Leads l old new → Called words old now
 called_line words l old new now names at lead = by lead.is
   where
@@ -372,16 +373,24 @@ called_line words l old new now names at lead = by lead.is
     by (inr none) =
         record { event = lead.event; files = new; is = inr none; leaves = lead.leaves; at = at }
 
-called : (words : List Text) (before after : World) (err err' : Paper) (status : ℕ) (old : Files)
-    → before.files ≡ Some old → Runs words before after err err' status → Called words old after.files
-called words before after err err' status old at (inl (l, names, inl (does, is, again, same))) =
+called_plainly : (words : List Text) (before after : World) (err err' : Paper) (status : ℕ)
+    (old : Files) → before.files ≡ Some old
+    → RunsPlainly (command_words words) before after err err' status
+    → Called words old after.files
+called_plainly words before after err err' status old at (inl (l, names, inl (does, is, again, same))) =
     let e = commands_are_events l before after (Ok tt) old at does in
     called_line words l old e.0 after.files names e.1 e.2
-called words before after err err' status old at (inl (l, names, inr (is, why, does, printed))) =
+called_plainly words before after err err' status old at
+    (inl (l, names, inr (is, why, does, printed))) =
     let e = commands_are_events l before after (Err why) old at does in
     called_line words l old e.0 after.files names e.1 e.2
-called words before after err err' status old at (inr (replies, same, count)) =
+called_plainly words before after err err' status old at (inr (replies, same, count)) =
     record { event = Unchanged; files = old; is = inr refl; leaves = refl; at = same ∙ at }
+
+called : (words : List Text) (before after : World) (err err' : Paper) (status : ℕ) (old : Files)
+    → before.files ≡ Some old → Runs words before after err err' status → Called words old after.files
+called words before after err err' status old at runs =
+    called_plainly words before after err runs.0 status old at runs.1
 
 -- what the calls that are left do makes the whole of what is done
 abbrev pub Through : List (List Text) → List (List Text) → Option Files → Option Files → Type 0

@@ -15,7 +15,7 @@ use Rattle.ssim_program.specs.print.Refusal.{refusal_text}
 use Rattle.ssim_program.specs.declared.refusal.Refusal.{Refusal}
 use Rattle.ssim_program.specs.declared.refusal.Refusal.TheVariants as refused
 use Rattle.ssim_command_line.specs.Line.{Line, Text}
-use Rattle.ssim_program.specs.Runs.{Obeys, Replies, SaysWrong}
+use Rattle.ssim_program.specs.Runs.{Explained, Obeys, Replies, Runs, RunsPlainly, SaysWrong, command_words, is_explained}
 use Rattle.ssim_program.specs.internal.Program.{EndsWithoutRequest, SaysHelp}
 use Rattle.ssim_program.specs.World.{Acted, Performs, World}
 use Rattle.ssim_program.specs.print.Paper.{Paper, PrintsOrFails}
@@ -55,7 +55,7 @@ performed_device [] w v (Err why) is = absurd is
 performed_device (act ∷ later) w v r (inl (mid, acted, rest)) = performed_device later mid v r rest ∙ acted_device act w mid (Ok tt) acted
 performed_device (act ∷ later) w v r (inr (why, acted, is)) = acted_device act w v (Err why) acted
 
-printed_device : (bytes : List ℕ) (p q : Paper) → PrintsOrFails bytes p q → q.device ≡ p.device
+pub printed_device : (bytes : List ℕ) (p q : Paper) → PrintsOrFails bytes p q → q.device ≡ p.device
 printed_device bytes p q (inl grows) = grows.device
 printed_device bytes p q (inr breaks) = breaks.device
 
@@ -69,6 +69,47 @@ devices_replied words out out' err err' status (inl (help, inr (one, (refusal, i
 devices_replied words out out' err err' status (inl (help, inr (one, (refusal, inr (failed, text, breaks), printed)))) = (breaks.device, printed_device (line_bytes refusal) err err' printed)
 devices_replied words out out' err err' status (inr (inl (wrong, two, (grows, text, printed)))) = (grows.device, printed_device text err err' printed)
 devices_replied words out out' err err' status (inr (inr (one, same, printed))) = (ap (λ (p : Paper). p.device) same, printed_device (line_bytes refused.Memory) err err' printed)
+
+explained_device : (asked : Bool) (status : ℕ) (p q : Paper) → Explained asked status p q → q.device ≡ p.device
+explained_device asked status p q (inl same) = ap (λ (x : Paper). x.device) same
+explained_device asked status p q (inr (is, one, text, printed)) = printed_device text p q printed
+
+-- a refusal that was explained, as it was asked
+pub explained_so : (asked : Bool) (status : ℕ) (p q : Paper) → asked ≡ true → status ≡ 1 → Explained true 1 p q → Explained asked status p q
+explained_so asked status p q is one (inl same) = inl same
+explained_so asked status p q is one (inr (yes, same, text, printed)) = inr (is, one, text, printed)
+
+-- ---- all words
+
+pub status_run : (words : List Text) (before after : World) (err err' : Paper) (status : ℕ) → RunsPlainly words before after err err' status → status ≤ 3
+status_run words before after err err' status (inl (l, names, obeys)) = status_obeyed l before after err err' status obeys
+status_run words before after err err' status (inr (replies, same, count)) = status_replied words before.out after.out err err' status replies
+
+devices_plainly : (words : List Text) (before after : World) (err err' : Paper) (status : ℕ) → RunsPlainly words before after err err' status → (after.out.device ≡ before.out.device) × (err'.device ≡ err.device)
+devices_plainly words before after err err' status (inl (l, names, obeys)) = devices_obeyed l before after err err' status obeys
+devices_plainly words before after err err' status (inr (replies, same, count)) = devices_replied words before.out after.out err err' status replies
+
+pub devices_run : (words : List Text) (asked : Bool) (before after : World) (err line err' : Paper) (status : ℕ) → RunsPlainly words before after err line status
+    → Explained asked status line err' → (after.out.device ≡ before.out.device) × (err'.device ≡ err.device)
+devices_run words asked before after err line err' status runs explained =
+    let devices = devices_plainly words before after err line status runs in
+    (devices.0, explained_device asked status line err' explained ∙ devices.1)
+
+-- words without `--explain` are the words of the command
+pub without_explain : (words : List Text) → is_explained words ≡ false → command_words words ≡ words
+without_explain [] no = refl
+without_explain (program ∷ []) no = refl
+without_explain (program ∷ word ∷ rest) no =
+    ap (λ (b : Bool). if b then program ∷ rest else program ∷ word ∷ rest) no
+
+-- what the words of the command do, explained as the words ask
+pub explained_run : (words left : List Text) (asked : Bool) (before after : World) (err err' : Paper) (status : ℕ) → command_words words ≡ left → is_explained words ≡ asked
+    → (line : Paper) × RunsPlainly left before after err line status × Explained asked status line err' → Runs words before after err err' status
+explained_run words left asked before after err err' status are is (line, runs, explained) = (
+  line,
+  subst (λ (ws : List Text). RunsPlainly ws before after err line status) (sym are) runs,
+  subst (λ (b : Bool). Explained b status line err') (sym is) explained,
+)
 
 -- ---- words that make no request
 

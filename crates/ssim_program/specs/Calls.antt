@@ -9,6 +9,7 @@ use Rattle.ssim_program.specs.Offices.{Event, Happened, History, Leaves, Then, f
 use Rattle.ssim_program.specs.Offices.{StartKept, TakeKept, ReceiveKept, MergeKept, WithdrawKept}
 use Rattle.ssim_program.specs.Offices.{MergeSinceKept, CarryKept, Unchanged, Came, AllCame}
 use Rattle.ssim_program.specs.Receiving.{Receipt}
+use Rattle.ssim_program.specs.Runs.{command_words}
 use Rattle.ssim_program.specs.World.{Does, World}
 use Rattle.ssim_program.specs.declared.refusal.Refusal.{Refusal}
 
@@ -45,11 +46,12 @@ CommandsAreEvents =
     → before.files ≡ Some old → Does (answers line before.files) before after result
     → (new : Files) × (after.files ≡ Some new) × Leads line old new
 
--- the event that a call of the program on these words is: of the command that they name, or that no
--- file changed
+-- the event that a call of the program on these words is: of the command that they name, also after
+-- `--explain`, or that no file changed
 abbrev pub IsCall : List Text → Event → Type 0
 IsCall words event =
-    ((line : Line) × Names words line × IsEventOf line event) ⊎ (event ≡ Unchanged)
+    ((line : Line) × Names (command_words words) line × IsEventOf line event)
+    ⊎ (event ≡ Unchanged)
 
 -- a history goes on with a call of the program on the words of each of these, one after another
 abbrev pub GoesOn : List (List Text) → History → History → Type 0

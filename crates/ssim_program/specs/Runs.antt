@@ -1,5 +1,7 @@
 -- What the program does with its words.
-use Rattle.std.specs.Prelude.{◌≡◌, ◌⊎◌, ℕ, true, false, List, [], Ok, Err}
+use Rattle.std.specs.Prelude.{◌≡◌, ◌⊎◌, ℕ, Bool, true, false, List, [], ◌∷◌, Ok, Err, codes}
+use Rattle.std.specs.Prelude.{if◌then◌else◌}
+use Rattle.std.specs.Str.{bytes_eq}
 use Rattle.ssim_command_line.specs.Line.{Line, Text}
 use Rattle.ssim_command_line.specs.Usage.{HasFault, IsNoCommand, Names}
 use Rattle.ssim_program.specs.Acts.{status_of}
@@ -56,8 +58,32 @@ Replies words out out' err err' status =
 -- ---- all words
 
 -- The words name a command, which is obeyed. Or they are answered, and no file changes.
-abbrev pub Runs : List Text → World → World → Paper → Paper → ℕ → Type 0
-Runs words before after err err' status =
+abbrev pub RunsPlainly : List Text → World → World → Paper → Paper → ℕ → Type 0
+RunsPlainly words before after err err' status =
     ((line : Line) × Names words line × Obeys line before after err err' status)
     ⊎ (Replies words before.out after.out err err' status
     × (after.files ≡ before.files) × (after.failures ≡ before.failures))
+
+-- the word after the program's name is `--explain`
+abbrev pub is_explained : List Text → Bool
+is_explained (program ∷ word ∷ rest) = bytes_eq word (codes "--explain")
+is_explained words = false
+
+-- the words without `--explain` before the command
+abbrev pub command_words : List Text → List Text
+command_words (program ∷ word ∷ rest) =
+    if bytes_eq word (codes "--explain") then program ∷ rest else program ∷ word ∷ rest
+command_words words = words
+
+-- `err` is as it was. Or, after a refusal that is to be explained, it has taken a text, or a prefix
+-- of it if a call failed; which text it is, is not specified.
+abbrev pub Explained : Bool → ℕ → Paper → Paper → Type 0
+Explained asked status err err' =
+    (err' ≡ err)
+    ⊎ ((asked ≡ true) × (status ≡ 1) × (text : List ℕ) × PrintsOrFails text err err')
+
+-- The words do what they do without `--explain`; then the refusal may be explained on `err`.
+abbrev pub Runs : List Text → World → World → Paper → Paper → ℕ → Type 0
+Runs words before after err err' status =
+    (line : Paper) × RunsPlainly (command_words words) before after err line status
+    × Explained (is_explained words) status line err'

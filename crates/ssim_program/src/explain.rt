@@ -15,6 +15,7 @@ pub(crate) mod file_kind;
 pub(crate) mod foreign;
 mod mail;
 mod name;
+pub(crate) mod reason;
 
 use crate::data_set::load_file;
 use crate::made::Report;

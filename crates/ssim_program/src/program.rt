@@ -8,21 +8,24 @@ ghost use Rattle.ssim_command_line.specs.Usage.{Names, is_help};
 ghost use Rattle.ssim_program.specs.Again.{PrintsItself};
 ghost use Rattle.ssim_program.specs.Answers.{answers};
 ghost use Rattle.ssim_program.specs.Calls.{Continues};
-ghost use Rattle.ssim_program.specs.Runs.{Obeys, Runs, SaysWrong};
+ghost use Rattle.ssim_program.specs.Runs.{Explained, Obeys, Runs, RunsPlainly, SaysWrong};
+ghost use Rattle.ssim_program.specs.Runs.{command_words, is_explained};
 ghost use Rattle.ssim_program.specs.World.{Does, PrintsRefusal, world};
 ghost use Rattle.ssim_program.specs.internal.Program.{EndsWithoutRequest, IsDone, SaysHelp};
 ghost use Rattle.ssim_program.specs.internal.Program.{made_status, says_found};
 ghost use Rattle.ssim_program.specs.print.Paper.{Paper, new_paper};
 
 use crate::command::make;
+use crate::explain::reason::reason_of;
 use crate::finish::finish;
 use crate::made::Made;
 use crate::print::printer::{Printer, print_all, print_line};
 use crate::print::refusal_line::print_refusal;
 use crate::refusal::Refusal;
 use crate::store::{Hold, Store};
+use crate::word::is_word;
 use ssim_command_line::{LineFault, Request, parse};
-use std::alloc::Global;
+use std::alloc::{AllocError, Global};
 use std::io::Write;
 
 /// Runs the program over two writers of std: [`run_on`], with printers over the two writers.
@@ -35,9 +38,9 @@ pub fn run<S: Store, O: Write, E: Write>(
 ) -> u8
     ensures status { result ≤ 3 }
 
-    // The words of a command name it.
-    ensures plain { (line : Line) → Spells (map (λ w. w.now) words.now) line
-        → Names (map (λ w. w.now) words.now) line }
+    // The words of a command name it, also after `--explain`.
+    ensures plain { (line : Line) → Spells (command_words (map (λ w. w.now) words.now)) line
+        → Names (command_words (map (λ w. w.now) words.now)) line }
 
     // The printers are new, and have what the writers hold.
     ensures runs { (out' err' : Paper) × (device other : ℕ)
@@ -70,8 +73,9 @@ pub fn run<S: Store, O: Write, E: Write>(
 /// done, or help was asked for; 1 if it was refused; 2 if the words name no command; 3 if the command
 /// was done with `--status` and found something.
 ///
-/// What a command prints goes to `out`, the line of a refusal to `err`. If `out` fails, it has
-/// taken a prefix of what was to be printed. A failure of `err` changes no status.
+/// What a command prints goes to `out`, the line of a refusal to `err`, and after it, with `--explain`
+/// before the command, what the refusal is about. If `out` fails, it has taken a prefix of what was to
+/// be printed. A failure of `err` changes no status.
 pub fn run_on<S: Store, O: Write, E: Write>(
     alloc: Global,
     words: &[&str],
@@ -81,9 +85,9 @@ pub fn run_on<S: Store, O: Write, E: Write>(
 ) -> u8
     ensures status { result ≤ 3 }
 
-    // The words of a command name it.
-    ensures plain { (line : Line) → Spells (map (λ w. w.now) words.now) line
-        → Names (map (λ w. w.now) words.now) line }
+    // The words of a command name it, also after `--explain`.
+    ensures plain { (line : Line) → Spells (command_words (map (λ w. w.now) words.now)) line
+        → Names (command_words (map (λ w. w.now) words.now)) line }
 
     // A command is obeyed: it does what its answer says, one act after another, up to the first that
     // fails. Other words are answered, and no file changes.
@@ -94,8 +98,56 @@ pub fn run_on<S: Store, O: Write, E: Write>(
     // Both printers still write to the same writers.
     ensures devices { (out.new.device ≡ out.old.device) × (err.new.device ≡ err.old.device) }
 {
+    if !is_explained(words) {
+        return run_plainly(alloc, words, false, store, out, err);
+    }
+    match command_words(alloc, words) {
+        Ok(left) => run_plainly(alloc, &left, true, store, out, err),
+        Err(_) => refuse(&Refusal::Memory, err),
+    }
+}
+
+/// Whether the first word after the program's name is `--explain`.
+fn is_explained(words: &[&str]) -> bool
+    ensures { result ≡ is_explained (map (λ w. w.now) words.now) }
+{
+    match words {
+        [_, word, ..] => is_word(word.as_bytes(), b"--explain"),
+        _ => false,
+    }
+}
+
+/// The words without the `--explain` before the command.
+fn command_words<'w>(alloc: Global, words: &[&'w str]) -> Result<Vec<&'w str>, AllocError>
+    requires { is_explained (map (λ w. w.now) words.now) ≡ true }
+    ensures { IfOk result
+        (λ left. map (λ w. w.now) left.items ≡ command_words (map (λ w. w.now) words.now)) }
+{
+    let mut left = Vec::with_capacity(alloc, words.len())?;
+    if let [program, _, rest @ ..] = words {
+        left.push(*program)?;
+        left.extend_from_slice(rest)?;
+    }
+    Ok(left)
+}
+
+/// Runs the program on its words, none of which is an `--explain` before the command, and explains a
+/// refusal if that is asked for.
+fn run_plainly<S: Store, O: Write, E: Write>(
+    alloc: Global,
+    words: &[&str],
+    explained: bool,
+    store: &mut S,
+    out: &mut Printer<'_, O>,
+    err: &mut Printer<'_, E>,
+) -> u8
+    ensures { (line : Paper) × RunsPlainly (map (λ w. w.now) words.now)
+        (world (S.files store.old) (S.failures store.old) out.old)
+        (world (S.files store.new) (S.failures store.new) out.new) err.old line result
+        × Explained explained result line err.new }
+{
     match parse(alloc, words) {
-        Ok(request) => obey(alloc, &request, store, out, err),
+        Ok(request) => obey(alloc, &request, explained, store, out, err),
         Err(fault) => without_request(alloc, &fault, out, err),
     }
 }
@@ -117,21 +169,25 @@ pub fn run_each<S: Store, O: Write, E: Write>(
     }
 }
 
-/// Begins a command, does what it asks, and prints the line of a refusal.
+/// Begins a command, does what it asks, and prints the line of a refusal, which is explained if that
+/// is asked for.
 fn obey<S: Store, O: Write, E: Write>(
     alloc: Global,
     request: &Request<'_>,
+    explained: bool,
     store: &mut S,
     out: &mut Printer<'_, O>,
     err: &mut Printer<'_, E>,
 ) -> u8
-    ensures { Obeys (line_of request.now)
+    ensures { (line : Paper) × Obeys (line_of request.now)
         (world (S.files store.old) (S.failures store.old) out.old)
-        (world (S.files store.new) (S.failures store.new) out.new) err.old err.new result }
+        (world (S.files store.new) (S.failures store.new) out.new) err.old line result
+        × Explained explained result line err.new }
 {
     store.begin();
     match act(alloc, request, store, out) {
         Ok(status) => status,
+        Err(refusal) if explained => refuse_explained(alloc, request, &refusal, store, err),
         Err(refusal) => refuse(&refusal, err),
     }
 }
@@ -184,6 +240,29 @@ fn refuse<P: Write>(refusal: &Refusal, err: &mut Printer<'_, P>) -> u8
     ensures printed { PrintsRefusal refusal.now err.old err.new }
 {
     let _ = print_refusal(refusal, err);
+    1
+}
+
+/// Prints the line of a refusal, and then what it is about. Returns 1.
+fn refuse_explained<S: Store, P: Write>(
+    alloc: Global,
+    request: &Request<'_>,
+    refusal: &Refusal,
+    store: &mut S,
+    err: &mut Printer<'_, P>,
+) -> u8
+    ensures status { result ≡ 1 }
+    ensures printed { (line : Paper) × PrintsRefusal refusal.now err.old line
+        × Explained true 1 line err.new }
+    ensures same { S.files store.new ≡ S.files store.old }
+    ensures counted { S.failures store.new ≡ S.failures store.old }
+{
+    let printed = print_refusal(refusal, err);
+    if printed.is_ok() {
+        if let Ok(lines) = reason_of(alloc, request, refusal, store) {
+            print_line(&lines, err);
+        }
+    }
     1
 }
 

@@ -13,6 +13,7 @@ use files::FileStore;
 use ssim_program::run;
 use std::alloc::{AllocError, Global};
 use std::env;
+use std::env::VarError;
 use std::io::{BufWriter, ErrorKind};
 use std::process::ExitCode;
 
@@ -22,10 +23,34 @@ const ROOM: usize = 32_768;
 /// The size of the buffer of the standard error, so that a line is written whole.
 const LINE_ROOM: usize = 1_024;
 
-/// The words as texts.
-fn texts_of(alloc: Global, words: &[String]) -> Result<Vec<&str>, AllocError> {
+/// The environment variable which, if it is set and not empty, is `--explain` before each command.
+const EXPLAIN: &str = "SSIMDESK_EXPLAIN";
+
+/// Whether each refusal is to be explained. A variable that memory is too small for is not read.
+fn explains(rt: &HostRuntime) -> bool {
+    match env::var(rt, EXPLAIN) {
+        Ok(value) => !value.is_empty(),
+        Err(VarError::NotUnicode) => true,
+        Err(_) => false,
+    }
+}
+
+/// Whether the first of the words after the program's name is `--explain`.
+fn begins_with_explain(words: &[String]) -> bool {
+    matches!(words, [first, ..] if first.as_str() == "--explain")
+}
+
+/// The words as texts, with one `--explain` before the command if each refusal is to be explained.
+fn texts_of(alloc: Global, explained: bool, words: &[String]) -> Result<Vec<&str>, AllocError> {
     let mut texts = Vec::with_capacity(alloc, words.len())?;
-    for word in words {
+    let [program, rest @ ..] = words else {
+        return Ok(texts);
+    };
+    texts.push(program.as_str())?;
+    if explained && !begins_with_explain(rest) {
+        texts.push("--explain")?;
+    }
+    for word in rest {
         texts.push(word.as_str())?;
     }
     Ok(texts)
@@ -85,7 +110,7 @@ fn main(rt: HostRuntime) -> ExitCode {
         Ok(words) => words,
         Err(kind) => return unread(&rt, kind),
     };
-    let status = match texts_of(rt.alloc(), &words) {
+    let status = match texts_of(rt.alloc(), explains(&rt), &words) {
         Ok(texts) => run_on(&rt, &texts),
         Err(_) => None,
     };

@@ -161,7 +161,7 @@ fn too_many_records() -> Option<Refusal>
 }
 
 /// The flight of the examples of 50 and 51.
-fn designator() -> Option<Designator>
+pub(super) fn designator() -> Option<Designator>
     ensures { IsSome result }
 {
     Designator::parse(b"LX544").ok()

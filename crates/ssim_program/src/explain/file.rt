@@ -117,7 +117,7 @@ fn on_valid(alloc: Global, kind: FileKind) -> Result<Report, Memory>
 }
 
 /// The name of a kind of file, as the end of a line.
-fn name_of(kind: FileKind) -> &'static str
+pub(super) fn name_of(kind: FileKind) -> &'static str
     ensures { result.now ≡ line (kind_name kind) }
 {
     match kind {
@@ -132,7 +132,7 @@ fn name_of(kind: FileKind) -> &'static str
 // ---- the refusal
 
 /// The refusal of a file of this kind, or none if it is valid.
-fn judged(alloc: Global, kind: FileKind, bytes: &[u8]) -> Result<Option<Refusal>, Memory>
+pub(super) fn judged(alloc: Global, kind: FileKind, bytes: &[u8]) -> Result<Option<Refusal>, Memory>
     requires { length bytes.now ≤ file_limit }
     ensures { IfOk result (λ found. Judges kind bytes.now found) }
 {

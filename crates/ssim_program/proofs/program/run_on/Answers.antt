@@ -1,8 +1,12 @@
--- The words name a command, which is obeyed, or they are answered.
-use Rattle.std.proofs.Common.{inl, inr, map, refl}
+-- The words of the command do what they do, and a refusal is explained if they ask for it.
+use Rattle.std.proofs.Common.{◌≡◌, true, false, inl, inr, map, refl, rules}
 use Rattle.ssim_command_line.proofs.Lines.{spells_names}
-use Rattle.ssim_program.proofs.Replying.{devices_obeyed, devices_replied, replied, status_obeyed, status_replied}
+use Rattle.ssim_program.specs.Runs.{command_words, is_explained}
+use Rattle.ssim_program.proofs.Replying.{devices_run, explained_run, printed_device, status_run, without_explain}
 use Rattle.ssim_program.proofs.program.run_on.Goals as goal
+
+pub returns-then-not-is_explained-clause-plain : goal.returns-then-not-is_explained-clause-plain
+returns-then-not-is_explained-clause-plain g c line spells = spells_names _ line spells
 
 pub returns-in-Ok-clause-plain : goal.returns-in-Ok-clause-plain
 returns-in-Ok-clause-plain g c line spells = spells_names _ line spells
@@ -10,20 +14,35 @@ returns-in-Ok-clause-plain g c line spells = spells_names _ line spells
 pub returns-in-Err-clause-plain : goal.returns-in-Err-clause-plain
 returns-in-Err-clause-plain g c line spells = spells_names _ line spells
 
-pub returns-in-Ok-clause-status : goal.returns-in-Ok-clause-status
-returns-in-Ok-clause-status g c = status_obeyed _ _ _ _ _ _ c.obey.ensures
+pub returns-then-not-is_explained-clause-status : goal.returns-then-not-is_explained-clause-status
+returns-then-not-is_explained-clause-status g c = status_run _ _ _ _ _ _ c.run_plainly.ensures.1
 
-pub returns-in-Ok-clause-runs : goal.returns-in-Ok-clause-runs
-returns-in-Ok-clause-runs g c = inl (_, c.in-Ok.ensures.named, c.obey.ensures)
+pub returns-in-Ok-clause-status : goal.returns-in-Ok-clause-status
+returns-in-Ok-clause-status g c = status_run _ _ _ _ _ _ c.run_plainly.ensures.1
+
+pub returns-then-not-is_explained-clause-devices : goal.returns-then-not-is_explained-clause-devices
+returns-then-not-is_explained-clause-devices g c = devices_run _ _ _ _ _ _ _ _ c.run_plainly.ensures.1 c.run_plainly.ensures.2
 
 pub returns-in-Ok-clause-devices : goal.returns-in-Ok-clause-devices
-returns-in-Ok-clause-devices g c = devices_obeyed _ _ _ _ _ _ c.obey.ensures
-
-pub returns-in-Err-clause-status : goal.returns-in-Err-clause-status
-returns-in-Err-clause-status g c = status_replied (map (λ w. w.now) c.args.words.now) _ _ _ _ _ (replied (map (λ w. w.now) c.args.words.now) c.in-Err.fault c.args.out.now c.without_request.new.out c.args.err.now c.without_request.new.err c.without_request.result c.in-Err.ensures.fault c.without_request.ensures)
-
-pub returns-in-Err-clause-runs : goal.returns-in-Err-clause-runs
-returns-in-Err-clause-runs g c = inr (replied (map (λ w. w.now) c.args.words.now) c.in-Err.fault c.args.out.now c.without_request.new.out c.args.err.now c.without_request.new.err c.without_request.result c.in-Err.ensures.fault c.without_request.ensures, refl, refl)
+returns-in-Ok-clause-devices g c = devices_run _ _ _ _ _ _ _ _ c.run_plainly.ensures.1 c.run_plainly.ensures.2
 
 pub returns-in-Err-clause-devices : goal.returns-in-Err-clause-devices
-returns-in-Err-clause-devices g c = devices_replied (map (λ w. w.now) c.args.words.now) _ _ _ _ c.without_request.result (replied (map (λ w. w.now) c.args.words.now) c.in-Err.fault c.args.out.now c.without_request.new.out c.args.err.now c.without_request.new.err c.without_request.result c.in-Err.ensures.fault c.without_request.ensures)
+returns-in-Err-clause-devices g c = (refl, printed_device _ _ _ c.refuse.ensures.printed)
+
+pub returns-then-not-is_explained-clause-runs : goal.returns-then-not-is_explained-clause-runs
+returns-then-not-is_explained-clause-runs g c =
+    let words = map (λ w. w.now) c.args.words.now in
+    let no : is_explained words ≡ false = search rules in
+    explained_run words words false _ _ _ _ _ (without_explain words no) no c.run_plainly.ensures
+
+pub returns-in-Ok-clause-runs : goal.returns-in-Ok-clause-runs
+returns-in-Ok-clause-runs g c =
+    let words = map (λ w. w.now) c.args.words.now in
+    let yes : is_explained words ≡ true = search rules in
+    let left = map (λ w. w.now) c.deref.result.now in
+    let are : command_words words ≡ left = search rules in
+    explained_run words left true _ _ _ _ _ are yes c.run_plainly.ensures
+
+pub returns-in-Err-clause-runs : goal.returns-in-Err-clause-runs
+returns-in-Err-clause-runs g c =
+    (c.refuse.new.err, inr (inr (inr (c.refuse.ensures.status, refl, c.refuse.ensures.printed)), refl, refl), inl refl)
