@@ -16,7 +16,7 @@ ZSH = "_ssimdesk"
 FISH = "ssimdesk.fish"
 
 # The date of the manual page: when the help last changed.
-DATE = "2026-11-30"
+DATE = "2026-12-01"
 
 # Values that are not names of files.
 NO_FILES = {"FLIGHT", "DATE", "STATION", "TYPE", "REFERENCE", "N"}
@@ -53,26 +53,33 @@ CASES
 _ssimdesk_found() { mapfile -t COMPREPLY < <(compgen "$@" -- "$word"); }
 
 _ssimdesk() {
-    local word=${COMP_WORDS[COMP_CWORD]} at place=0 file= values options kind
-    if [ "$COMP_CWORD" -eq 1 ]; then
-        _ssimdesk_found -W "NAMES help --help --version"
+    local word=${COMP_WORDS[COMP_CWORD]} words=("${COMP_WORDS[@]}") last=$COMP_CWORD at place=0 file= values options kind
+    if [ "$last" -eq 1 ]; then
+        _ssimdesk_found -W "NAMES help --explain --help --version"
         return
     fi
-    if [ "${COMP_WORDS[1]}" = help ]; then
+    if [ "${words[1]}" = --explain ]; then
+        words=("${words[0]}" "${words[@]:2}") last=$((last - 1))
+    fi
+    if [ "$last" -eq 1 ]; then
         _ssimdesk_found -W "NAMES"
         return
     fi
-    IFS=: read -r values options < <(_ssimdesk_words "${COMP_WORDS[1]}")
+    if [ "${words[1]}" = help ]; then
+        _ssimdesk_found -W "NAMES"
+        return
+    fi
+    IFS=: read -r values options < <(_ssimdesk_words "${words[1]}")
     if [[ $word == -* ]]; then
         _ssimdesk_found -W "$options"
         return
     fi
-    for ((at = 2; at < COMP_CWORD; at++)); do
-        case "${COMP_WORDS[at]}" in
-        FILED) at=$((at + 1)); [ "$at" -lt "$COMP_CWORD" ] || { _ssimdesk_found -f; return; } ;;
-        VALUED) at=$((at + 1)); [ "$at" -lt "$COMP_CWORD" ] || return ;;
+    for ((at = 2; at < last; at++)); do
+        case "${words[at]}" in
+        FILED) at=$((at + 1)); [ "$at" -lt "$last" ] || { _ssimdesk_found -f; return; } ;;
+        VALUED) at=$((at + 1)); [ "$at" -lt "$last" ] || return ;;
         --*) ;;
-        *) [ "$place" -gt 0 ] || file=${COMP_WORDS[at]}; place=$((place + 1)) ;;
+        *) [ "$place" -gt 0 ] || file=${words[at]}; place=$((place + 1)) ;;
         esac
     done
     read -ra values <<< "$values"
@@ -115,7 +122,15 @@ NAMES
     )
     if ((CURRENT == 2)); then
         _describe command commands
-        compadd -- help --help --version
+        compadd -- help --explain --help --version
+        return
+    fi
+    if [[ "$words[2]" == --explain ]]; then
+        words[2]=()
+        ((CURRENT--))
+    fi
+    if ((CURRENT == 2)); then
+        _describe command commands
         return
     fi
     shift words
@@ -131,9 +146,18 @@ _ssimdesk "$@"
 IN_FISH = """\
 # Completes the words of ssimdesk in fish: this file belongs into a folder of $fish_complete_path.
 
+# The words of the line so far, without --explain before the command.
+function __ssimdesk_line
+    set -l words (commandline -opc)
+    if test "$words[2]" = --explain
+        set -e words[2]
+    end
+    string join \\n -- $words
+end
+
 # The values of the line so far: its words without options, from the third on.
 function __ssimdesk_values
-    set -l words (commandline -opc)
+    set -l words (__ssimdesk_line)
     set -l skipped no
     for word in $words[3..]
         if test $skipped = yes
@@ -160,7 +184,7 @@ end
 
 # Whether the line has a command, and at least the first number of values, but fewer than the second.
 function __ssimdesk_at
-    set -l words (commandline -opc)
+    set -l words (__ssimdesk_line)
     test (count $words) -ge 2; and test $words[2] = $argv[1]; or return 1
     set -l count (count (__ssimdesk_values))
     test $count -ge $argv[2]; and test $count -lt $argv[3]
@@ -168,6 +192,7 @@ end
 
 complete -c ssimdesk -f
 complete -c ssimdesk -n __fish_use_subcommand -a help -d 'Print help'
+complete -c ssimdesk -n __fish_use_subcommand -l explain -d 'Say more after a refusal'
 complete -c ssimdesk -n __fish_use_subcommand -l help -d 'Print help'
 complete -c ssimdesk -n __fish_use_subcommand -l version -d 'Print version'
 LINES
@@ -251,14 +276,21 @@ FILES = [
 ]
 
 
+EXPLAIN = ("--explain", "Before the command. After the line of a refusal more lines say which file or word it is about, what is there, what "
+           "the refusal means, and what to do about it.")
+
+ENVIRONMENT = [("SSIMDESK_EXPLAIN", "If it is set and not empty, --explain is before each command.")]
+
+
 def manual(version, whole, pages):
     """The manual page."""
     lists, _, status = whole.after.partition("Exit status: ")
     synopses = [line for name, page in pages for line in synopsis(name, page)][:-1]
     lines = [f'.TH SSIMDESK 1 {DATE} "ssimdesk {version}" "User Commands"', ".SH NAME", f"ssimdesk \\- {escaped(whole.about)}",
              ".SH SYNOPSIS", *synopses, ".SH DESCRIPTION",
-             *as_is(lists.rstrip("\n")), ".SH OPTIONS", *entry_lines(whole.options), ".SH COMMANDS",
-             *[line for _, page in pages for line in described(page)], ".SH FILES", *entry_lines(FILES), ".SH EXIT STATUS",
+             *as_is(lists.rstrip("\n")), ".SH OPTIONS", *entry_lines([EXPLAIN, *whole.options]), ".SH COMMANDS",
+             *[line for _, page in pages for line in described(page)], ".SH ENVIRONMENT", *entry_lines(ENVIRONMENT),
+             ".SH FILES", *entry_lines(FILES), ".SH EXIT STATUS",
              escaped(status), ".SH SEE ALSO", "The pages of the folder docs: TUTORIAL.md is a day at two offices, FORMATS.md has every",
              "file and printed line, REFUSALS.md what each refusal means and what to do."]
     return "\n".join(lines) + "\n"

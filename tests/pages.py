@@ -24,6 +24,11 @@ SEASON = os.path.join(TOP, "samples", "season.ssim")
 COMPLETED = [
     ("ssimdesk li", "list"),
     ("ssimdesk help bo", "board"),
+    ("ssimdesk --exp", "--explain"),
+    ("ssimdesk --explain li", "list"),
+    ("ssimdesk --explain list --csv --d", "--dates"),
+    (r"ssimdesk --explain check a\ s", r"a\ season.ssim"),
+    ("ssimdesk --explain list a.ssim Z710", "Z7101 Z7102 | Z7111 FDH"),
     ("ssimdesk list --csv --d", "--dates"),
     (r"ssimdesk check a\ s", r"a\ season.ssim"),
     (r"ssimdesk receive --refused a\ s", r"a\ season.ssim"),
