@@ -8,7 +8,7 @@ use Rattle.ssim_values.specs.declared.time_mode.TimeMode.{TimeMode}
 use Rattle.ssim_values.specs.declared.time_mode.TimeMode.TheVariants.{Utc, Local}
 use Rattle.ssim_records.specs.Columns.{utc_variation_of}
 use Rattle.ssim_records.specs.Leg.{leg_columns}
-use Rattle.ssim_board.specs.LocalTime.{Moment, local_time}
+use Rattle.ssim_board.specs.LocalTime.{Moment, local_time, utc_time}
 
 -- how many days a date variation adds: a digit adds itself, any other byte nothing
 abbrev pub days_added : ℕ → ℕ
@@ -37,6 +37,17 @@ departure_time mode date columns =
 unfoldable pub arrival_time : TimeMode → ℕ → List ℕ → Moment
 arrival_time mode date columns =
     local_time mode (variation_in 66 70 columns) (date + days_added (date_variation 1 columns) + 1)
+    (time_in 58 61 columns)
+
+-- the UTC time at which a leg departs, and at which it arrives, on days that are counted so
+unfoldable pub departure_utc : TimeMode → ℕ → List ℕ → Moment
+departure_utc mode date columns =
+    utc_time mode (variation_in 48 52 columns) (date + days_added (date_variation 0 columns) + 1)
+    (time_in 44 47 columns)
+
+unfoldable pub arrival_utc : TimeMode → ℕ → List ℕ → Moment
+arrival_utc mode date columns =
+    utc_time mode (variation_in 66 70 columns) (date + days_added (date_variation 1 columns) + 1)
     (time_in 58 61 columns)
 
 -- ---- what makes these times uncertain

@@ -1,5 +1,6 @@
 -- Local times of departures and arrivals at their stations.
 use Rattle.std.specs.Prelude.{ℕ, ◌+◌, ◌-◌, ◌*◌, ◌/◌, ◌%◌, ◌==◌, if◌then◌else◌, Option, Some, None}
+use Rattle.std.specs.Prelude.{not}
 use Rattle.ssim_values.specs.Variation.{Offset}
 use Rattle.ssim_values.specs.declared.time_mode.TimeMode.{TimeMode}
 use Rattle.ssim_values.specs.declared.time_mode.TimeMode.TheVariants.{Utc, Local}
@@ -32,3 +33,14 @@ abbrev pub local_time : TimeMode → Option Offset → ℕ → ℕ → Moment
 local_time Local variation days minutes = moment_on days minutes
 local_time Utc None days minutes = moment_on days minutes
 local_time Utc (Some variation) days minutes = moved_by variation days minutes
+
+-- the opposite of a UTC variation
+abbrev pub opposite : Offset → Offset
+opposite variation = record { negative = not variation.negative; minutes = variation.minutes }
+
+-- The UTC time of a time in a timetable of this mode. In UTC mode it is the time itself. In local
+-- mode it is moved back by the UTC variation; without one it is not moved.
+abbrev pub utc_time : TimeMode → Option Offset → ℕ → ℕ → Moment
+utc_time Utc variation days minutes = moment_on days minutes
+utc_time Local None days minutes = moment_on days minutes
+utc_time Local (Some variation) days minutes = moved_by (opposite variation) days minutes

@@ -9,7 +9,8 @@ use Rattle.ssim_periods.specs.Calendar.{day_count}
 use Rattle.ssim_records.specs.Leg.{leg_columns}
 use Rattle.ssim_base.specs.Export.{all_flights}
 use Rattle.ssim_base.specs.Timetable.{Days, LegValue, on_day}
-use Rattle.ssim_board.specs.LegTimes.{arrival_time, departure_time, is_uncertain}
+use Rattle.ssim_board.specs.LegTimes.{arrival_time, arrival_utc, departure_time, departure_utc}
+use Rattle.ssim_board.specs.LegTimes.{is_uncertain}
 use Rattle.ssim_board.specs.LocalTime.{Moment}
 use Rattle.ssim_board.specs.declared.board.Board.{Board}
 use Rattle.ssim_board.specs.declared.movement.Movement.{Movement}
@@ -27,6 +28,11 @@ station_of columns Arrival = leg_columns 55 57 columns
 abbrev pub time_of : TimeMode → ℕ → List ℕ → MovementKind → Moment
 time_of mode date columns Departure = departure_time mode date columns
 time_of mode date columns Arrival = arrival_time mode date columns
+
+-- the UTC time of an end of a leg
+abbrev pub utc_time_of : TimeMode → ℕ → List ℕ → MovementKind → Moment
+utc_time_of mode date columns Departure = departure_utc mode date columns
+utc_time_of mode date columns Arrival = arrival_utc mode date columns
 
 -- the other end of a leg
 abbrev pub other_end : MovementKind → MovementKind

@@ -3,8 +3,8 @@
 ghost use Rattle.std.specs.Prelude.{◌≡◌, ◌≤◌, ◌+◌};
 ghost use Rattle.ssim_board.specs.LegTimes.{days_added, has_unknown, is_uncertain, is_unknown};
 ghost use Rattle.ssim_board.specs.LegTimes.{lacks_variation};
-ghost use Rattle.ssim_board.specs.LocalTime.{local_time};
-ghost use Rattle.ssim_board.specs.Movements.{station_of, time_of};
+ghost use Rattle.ssim_board.specs.LocalTime.{local_time, utc_time};
+ghost use Rattle.ssim_board.specs.Movements.{station_of, time_of, utc_time_of};
 ghost use Rattle.ssim_board.specs.internal.DaysThere.{days_after};
 
 use crate::local_time::LocalTime;
@@ -23,7 +23,7 @@ pub(crate) fn station_of(leg: &LegColumns, kind: MovementKind) -> Station
 }
 
 /// The local time of an end of a leg, if its flight has this date of origin.
-pub(crate) fn time_of(mode: TimeMode, date: Day, leg: &LegColumns, kind: MovementKind) -> LocalTime
+pub fn time_of(mode: TimeMode, date: Day, leg: &LegColumns, kind: MovementKind) -> LocalTime
     ensures { result ≡ time_of mode date leg.now kind }
 {
     let [departure, arrival] = leg.date_variations();
@@ -36,6 +36,29 @@ pub(crate) fn time_of(mode: TimeMode, date: Day, leg: &LegColumns, kind: Movemen
             leg.aircraft_departure_time(),
         ),
         MovementKind::Arrival => time_at(
+            mode,
+            date,
+            arrival,
+            leg.arrival_variation(),
+            leg.aircraft_arrival_time(),
+        ),
+    }
+}
+
+/// The UTC time of an end of a leg, if its flight has this date of origin.
+pub fn utc_time_of(mode: TimeMode, date: Day, leg: &LegColumns, kind: MovementKind) -> LocalTime
+    ensures { result ≡ utc_time_of mode date leg.now kind }
+{
+    let [departure, arrival] = leg.date_variations();
+    match kind {
+        MovementKind::Departure => utc_time_at(
+            mode,
+            date,
+            departure,
+            leg.departure_variation(),
+            leg.aircraft_departure_time(),
+        ),
+        MovementKind::Arrival => utc_time_at(
             mode,
             date,
             arrival,
@@ -71,9 +94,23 @@ fn time_at(
     LocalTime::of(mode, variation, days, time)
 }
 
+// The UTC time of a time of day, on a date plus what a date variation adds.
+fn utc_time_at(
+    mode: TimeMode,
+    date: Day,
+    date_variation: u8,
+    variation: Option<Variation>,
+    time: Clock,
+) -> LocalTime
+    ensures { result ≡ utc_time mode variation (date + days_added date_variation + 1) time }
+{
+    let days = date.number() + days_added(date_variation) + 1;
+    LocalTime::utc_of(mode, variation, days, time)
+}
+
 /// Whether a date variation of the leg is neither digit nor blank, or in UTC mode a UTC variation
 /// is blank.
-pub(crate) fn is_uncertain(mode: TimeMode, leg: &LegColumns) -> bool
+pub fn is_uncertain(mode: TimeMode, leg: &LegColumns) -> bool
     ensures { result ≡ is_uncertain mode leg.now }
 {
     has_unknown(leg) || lacks_variation(mode, leg)

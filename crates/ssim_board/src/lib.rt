@@ -8,6 +8,8 @@
 //! - [`board_lines`]: a line for each departure and arrival on a board. [`push_movements`] adds a row
 //!   of CSV for each, and [`movement_names`] is the row of names.
 //! - [`LocalTime`]: a day and a time of day at a station. The day may be beside the calendar.
+//!   [`time_of`] is the local time of an end of a leg, [`utc_time_of`] its UTC time, and
+//!   [`is_uncertain`] whether they may be wrong.
 //! - [`laws`]: only dates of origin near the date of a board have something on it; a movement is a
 //!   departure or an arrival.
 //!
@@ -32,6 +34,7 @@ mod rows;
 
 pub use board::Board;
 pub use kinds::of_kind;
+pub use leg_times::{is_uncertain, time_of, utc_time_of};
 pub use lines::board_lines;
 pub use local_time::LocalTime;
 pub use movement::{Movement, MovementKind};

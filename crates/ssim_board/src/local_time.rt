@@ -1,8 +1,9 @@
-//! Local times of departures and arrivals.
+//! Local times and UTC times of departures and arrivals.
 
 ghost use Rattle.std.specs.Prelude.{◌≡◌, ◌<◌, ◌≤◌, ◌+◌, ◌*◌};
 ghost use Rattle.ssim_values.specs.Clock.{clock_text};
-ghost use Rattle.ssim_board.specs.LocalTime.{local_time, moment, moment_on, moved_by};
+ghost use Rattle.ssim_board.specs.LocalTime.{local_time, moment, moment_on, moved_by, utc_time};
+ghost use Rattle.ssim_values.specs.Variation.{Offset};
 
 use ssim_values::{Clock, TimeMode, Variation, write_two_digits};
 use std::marker::Model;
@@ -47,7 +48,28 @@ impl LocalTime {
         ensures { result ≡ local_time mode variation days time }
     {
         match (mode, variation) {
-            (TimeMode::Utc, Some(variation)) => moved_by(variation, days, time),
+            (TimeMode::Utc, Some(variation)) => {
+                moved_by(variation.is_negative(), variation.minutes(), days, time)
+            }
+            _ => time_on(days, time),
+        }
+    }
+
+    /// The UTC time of the same, as a day and minutes.
+    pub(crate) fn utc_of(
+        mode: TimeMode,
+        variation: Option<Variation>,
+        days: u16,
+        time: Clock,
+    ) -> LocalTime
+        requires after { 0 < days }
+        requires small { days < 40000 }
+        ensures { result ≡ utc_time mode variation days time }
+    {
+        match (mode, variation) {
+            (TimeMode::Local, Some(variation)) => {
+                moved_by(!variation.is_negative(), variation.minutes(), days, time)
+            }
             _ => time_on(days, time),
         }
     }
@@ -87,20 +109,22 @@ fn time_on(days: u16, time: Clock) -> LocalTime
     }
 }
 
-// A UTC time as local time. A variation of 0 moves nothing, so that 2400 stays 2400.
-fn moved_by(variation: Variation, days: u16, time: Clock) -> LocalTime
+// A time moved by minutes, back if they are negative. 0 minutes move nothing, so that 2400 stays
+// 2400.
+fn moved_by(negative: bool, minutes: u16, days: u16, time: Clock) -> LocalTime
     requires after { 0 < days }
     requires small { days < 40000 }
-    ensures { result ≡ moved_by variation days time }
+    requires bound { minutes ≤ 900 }
+    ensures { result ≡ moved_by (record { negative = negative; minutes = minutes }) days time }
 {
-    if variation.minutes() == 0 {
+    if minutes == 0 {
         return time_on(days, time);
     }
-    let utc = days as u32 * DAY + time.minutes() as u32;
-    if variation.is_negative() {
-        at_minute(utc - variation.minutes() as u32)
+    let before = days as u32 * DAY + time.minutes() as u32;
+    if negative {
+        at_minute(before - minutes as u32)
     } else {
-        at_minute(utc + variation.minutes() as u32)
+        at_minute(before + minutes as u32)
     }
 }
 
