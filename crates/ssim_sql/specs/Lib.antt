@@ -1,0 +1,10 @@
+pub mod Literal
+pub mod Blanks
+pub mod Statements
+pub mod Timetable
+pub mod LegRows
+pub mod SegmentRows
+pub mod Messages
+pub mod DayRows
+pub mod Script
+pub mod internal

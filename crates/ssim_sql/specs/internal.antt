@@ -1,0 +1,5 @@
+-- Definitions that only private functions cite. No law and no public contract cites them, so nobody
+-- has to believe them.
+pub mod Tables
+pub mod Values
+pub mod Rows
