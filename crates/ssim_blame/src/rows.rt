@@ -6,8 +6,8 @@ ghost use Rattle.ssim_blame.specs.Rows.{blame_rows, blamed_rows, maker_fields, p
 
 use crate::flight_blame::FlightBlame;
 use crate::maker::{Maker, SubName};
-use ssim_lines::{Printed, push_each, written};
-use ssim_listing::{iso_date, name_of, push_row};
+use ssim_lines::written;
+use ssim_listing::{CsvRows, Rowed, iso_date, name_of, put_each};
 use ssim_values::{Airline, Memory, Period};
 use std::alloc::Global;
 use std::fmt;
@@ -47,29 +47,29 @@ pub fn blame_rows(
 ) -> Result<Vec<u8>, Memory>
     ensures { IfOk result (λ rows. rows.items ≡ blame_rows airline flights.now) }
 {
-    let mut rows = Vec::new(alloc);
-    push_row(alloc, &mut rows, &NAMES)?;
-    push_each(&mut rows, &Flights { alloc, airline }, flights)?;
-    Ok(rows)
+    let mut rows = CsvRows::new(alloc);
+    rows.push(&NAMES, &[])?;
+    put_each(&mut rows, &Flights { alloc, airline }, flights)?;
+    rows.into_bytes()
 }
 
-impl Printed<Flights> for FlightBlame {
+impl Rowed<Flights> for FlightBlame {
     ghost text = { λ flights flight. blamed_rows flights.airline flight };
 
-    fn print(&self, flights: &Flights, rows: &mut Vec<u8>) -> Result<(), Memory> {
+    fn put(&self, flights: &Flights, rows: &mut CsvRows) -> Result<(), Memory> {
         let name = name_of(flights.airline, self.flight());
         let named = Named {
             alloc: flights.alloc,
             name: name.as_slice(),
         };
-        push_each(rows, &named, self.pieces())
+        put_each(rows, &named, self.pieces())
     }
 }
 
-impl Printed<Named<'_>> for (Period, Maker) {
+impl Rowed<Named<'_>> for (Period, Maker) {
     ghost text = { λ named piece. piece_row named.name.now piece };
 
-    fn print(&self, named: &Named<'_>, rows: &mut Vec<u8>) -> Result<(), Memory> {
+    fn put(&self, named: &Named<'_>, rows: &mut CsvRows) -> Result<(), Memory> {
         let alloc = named.alloc;
         let none = *b"";
         match &self.1 {
@@ -87,27 +87,18 @@ impl Printed<Named<'_>> for (Period, Maker) {
 
 // Adds the row of a period, with these fields of its maker.
 fn push_piece(
-    rows: &mut Vec<u8>,
+    rows: &mut CsvRows,
     named: &Named<'_>,
     period: &Period,
     maker: &[&[u8]; 3],
 ) -> Result<(), Memory>
-    ensures { OnOk result (rows.new.items ≡ rows.old.items
+    ensures { OnOk result (rows.new ≡ rows.old
         ++ row (period_head named.now.name.now period.now ++ map (λ f. f.now) maker.now)) }
 {
     let first = iso_date(period.first());
     let last = iso_date(period.last());
     let days = period.mask().digits();
-    let fields: [&[u8]; 7] = [
-        named.name,
-        &first,
-        &last,
-        days.as_slice(),
-        maker[0],
-        maker[1],
-        maker[2],
-    ];
-    push_row(named.alloc, rows, &fields)
+    rows.push(&[named.name, &first, &last, days.as_slice()], maker)
 }
 
 // The text of what is displayed.
