@@ -1,8 +1,7 @@
 #!/usr/bin/env python3
 """Compares a program with a plain model on seeded cases: run.py MODEL PROGRAM [--cases N] [--seed N] [--kind KIND] [--jobs N] [PEER]
 
-MODEL is a module of this folder, whose doc string says what is compared. `blame`, `carry`, `convert`, `days`, `effects`, `explain`, `parts`, `publish`,
-`receive`, `since`, `split`, `views` and `words` know by themselves what the program must print; `commands`, `data_sets`, `desk_files` and `problems` ask PEER,
+MODEL is a module of this folder, whose doc string says what is compared. `blame`, `carry`, `commands`, `convert`, `data_sets`, `days`, `desk_files`, `effects`, `explain`, `parts`, `problems`, `publish`, `receive`, `since`, `split`, `sql`, `views`, `words`,
 another program of the same requirement.
 
 Each of N (200) cases has a folder of its own, and a random number generator by the seed (1) and its number. The model makes a case of KIND,
@@ -24,7 +23,7 @@ sys.path.insert(0, os.path.join(os.path.dirname(os.path.dirname(os.path.abspath(
 
 from room import Answer, Room
 
-MODELS = ["blame", "carry", "convert", "days", "effects", "explain", "parts", "publish", "receive", "since", "split", "views", "words"]
+MODELS = ["blame", "carry", "convert", "days", "effects", "explain", "parts", "publish", "receive", "since", "split", "sql", "views", "words"]
 WITH_PEER = ["commands", "data_sets", "desk_files", "problems"]
 SHOWN = 5
 

@@ -75,6 +75,8 @@ COMMANDS = [
     ("calendar of a part", ["calendar", "--station", "LHR", "--from", "1jul25", "desk", "LX544", "LX540"], None),
     ("info", ["info", "desk"], None),
     ("stations", ["stations", "desk"], None),
+    ("sql", ["sql", "desk"], None),
+    ("sql of a data set", ["sql", "season"], None),
     ("page", ["page", "desk"], None),
     ("diff", ["diff", "theirs", "desk"], None),
     ("diff --summary", ["diff", "--summary", "theirs", "desk"], None),

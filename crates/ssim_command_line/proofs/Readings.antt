@@ -20,7 +20,7 @@ use Rattle.ssim_command_line.specs.Line.{formed_two_and_any, formed_two_and_text
 use Rattle.ssim_command_line.specs.Line.{Blame, Board, Calendar, Check, Diff, Explain, Export, Findings, History}
 use Rattle.ssim_command_line.specs.Line.{Listing}
 use Rattle.ssim_command_line.specs.Line.{Merge, Page, Problems, Publish, Receive, Rehearse, Select, Show, Start}
-use Rattle.ssim_command_line.specs.Line.{Carry, Convert, Info, Split, Stations, Take, Texts, Tidy, Withdraw, mode_and_two}
+use Rattle.ssim_command_line.specs.Line.{Carry, Convert, Info, Split, Sql, Stations, Take, Texts, Tidy, Withdraw, mode_and_two}
 use Rattle.ssim_command_line.specs.declared.board_form.BoardForm.{BoardForm}
 use Rattle.ssim_command_line.specs.declared.command_line.DiffForm.{DiffForm}
 use Rattle.ssim_command_line.specs.declared.command_line.ModeWord.{ModeWord}
@@ -476,6 +476,7 @@ readers =
     ∷ record { row = calendar_row; reads = calendar_read }
     ∷ with_one (codes "info") Info
     ∷ with_one (codes "stations") Stations
+    ∷ with_one (codes "sql") Sql
     ∷ record { row = diff_row; reads = diff_read }
     ∷ record { row = command (codes "publish") four_values (four Publish); reads = four_plain (codes "publish") Publish }
     ∷ record { row = page_row; reads = page_read }

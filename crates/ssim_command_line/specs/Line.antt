@@ -59,6 +59,7 @@ pub data Line : Type 0 where
   Calendar : (choice : ChoiceTexts) (file : Text) (flights : List Text) → Line
   Info : (file : Text) → Line
   Stations : (file : Text) → Line
+  Sql : (file : Text) → Line
   Page : (from : Option Text) (file : Text) → Line
   Diff : (form : DiffForm) (choice : ChoiceTexts) (from to : Text) (flights : List Text) → Line
   Publish : (from to reference out : Text) → Line
@@ -117,6 +118,7 @@ line_of (request.Calendar choice file flights) =
     Calendar (choice_line choice) file.now (map (λ t. t.now) flights.items)
 line_of (request.Info file) = Info file.now
 line_of (request.Stations file) = Stations file.now
+line_of (request.Sql file) = Sql file.now
 line_of (request.Page from file) = Page (option_map (λ f. f.now) from) file.now
 line_of (request.Diff form choice from to flights) =
     Diff form (choice_line choice) from.now to.now (map (λ t. t.now) flights.items)
@@ -450,6 +452,7 @@ commands =
     }
     ∷ command (codes "info") one_value (one Info)
     ∷ command (codes "stations") one_value (one Stations)
+    ∷ command (codes "sql") one_value (one Sql)
     ∷ record {
       name = codes "diff";
       words = two_values ++ any_texts ∷ diff_words;

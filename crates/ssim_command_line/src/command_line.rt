@@ -223,6 +223,10 @@ pub enum Request<'a> {
     Stations {
         file: &'a str,
     },
+    /// Print a desk or a data set as an SQL script that fills a database.
+    Sql {
+        file: &'a str,
+    },
     /// Print the timetable of a desk or a data set as a page of HTML, with its changes from another
     /// timetable, if one is named.
     Page {

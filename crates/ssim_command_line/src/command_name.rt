@@ -27,6 +27,7 @@ pub(crate) enum CommandName {
     Calendar,
     Info,
     Stations,
+    Sql,
     Diff,
     Publish,
     Page,

@@ -57,7 +57,7 @@ The commands by what they are for:
   each day:   receive, take, board, show, list, calendar, page, diff, history
   a desk:     start, texts, findings, withdraw, merge, carry, export, publish
   a data set: check, problems, tidy, select, convert, split
-  also:       blame, info, stations, explain, rehearse
+  also:       blame, info, stations, sql, explain, rehearse
 
 For each file that is read, - is standard input.
 With --explain before COMMAND, or if SSIMDESK_EXPLAIN is set and not empty, more
@@ -373,6 +373,16 @@ Exit status: 0; 1 if the file is refused."
 Example:
   ssimdesk stations season.ssim > mine.txt
   ssimdesk start season.ssim mine.txt fdh.desk
+Exit status: 0; 1 if the file is refused."
+        "sql" [First("FILE")] => Sql(file)
+        "Print a desk or a data set as an SQL script that fills a database"
+        "\
+Example:
+  ssimdesk sql fdh.desk | sqlite3 -bail summer.db
+  sqlite3 summer.db 'SELECT flight, time FROM departure'
+makes the tables timetable, day, leg, segment, station_row, message, sub_message
+and the views flown, departure and arrival. A second run brings the rows of this
+airline and season up to date; those of others stay.
 Exit status: 0; 1 if the file is refused."
         "diff" [First("FROM"), Second("TO"), Any("FLIGHT"), Flag("csv"), Flag("summary"),
             Flag("status"), Valued("from", "DATE"), Valued("to", "DATE"),

@@ -292,6 +292,8 @@ module _ (old new : Files) (acts done later : List Act) (split : acts ≡ done +
       looks _ old new acts done later split left (ap kept_by are)
   of_line (line.Stations file) (bytes, is, are) =
       looks _ old new acts done later split left (ap kept_by are)
+  of_line (line.Sql file) (bytes, is, are) =
+      looks _ old new acts done later split left (ap kept_by are)
   of_line (line.Page from file) (bytes, is, are) =
       looks _ old new acts done later split left (ap kept_by are)
   of_line (line.Diff form words from to flights) (made, is, are) =

@@ -46,6 +46,7 @@ pub mod EqualFiles
 pub mod EqualDataSets
 pub mod EqualParts
 pub mod EqualBlames
+pub mod EqualScripts
 pub mod EqualChanges
 pub mod CarriedFiles
 pub mod ChoiceSteps

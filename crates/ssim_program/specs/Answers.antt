@@ -1,5 +1,5 @@
 -- What each command does, by the files: one equation a command.
-use Rattle.std.specs.Prelude.{◌≡◌, ℕ, Bool, true, List, [], ◌∷◌, ◌++◌, length, map, slice_range}
+use Rattle.std.specs.Prelude.{◌≡◌, ℕ, Bool, true, false, List, [], ◌∷◌, ◌++◌, length, map, slice_range}
 use Rattle.std.specs.Prelude.{Option, None, Some, Ok, Err, ◌&&◌, if◌then◌else◌}
 use Rattle.std.specs.List.{flat_map}
 use Rattle.ssim_values.specs.Station.{is_station}
@@ -29,12 +29,13 @@ use Rattle.ssim_parts.specs.Chosen.{chosen_days}
 use Rattle.ssim_page.specs.Page.{whole_page}
 use Rattle.ssim_page.specs.declared.heading.PageHeading.{PageHeading}
 use Rattle.ssim_overview.specs.SaidRows.{said_rows}
+use Rattle.ssim_sql.specs.Script.{script_of}
 use Rattle.ssim_command_line.specs.Line.{Line, Text, Check, Problems, Tidy, Start, Take, Merge}
 use Rattle.ssim_command_line.specs.Line.{Withdraw}
 use Rattle.ssim_command_line.specs.Line.{Carry, ChoiceTexts, SpanTexts}
 use Rattle.ssim_command_line.specs.Line.{Blame, Receive, Texts, Show, History, Calendar, Findings}
 use Rattle.ssim_command_line.specs.Line.{Export, Rehearse, Explain, Page, Board, Diff, Publish}
-use Rattle.ssim_command_line.specs.Line.{Convert, Info, Listing, Select, Split, Stations}
+use Rattle.ssim_command_line.specs.Line.{Convert, Info, Listing, Select, Split, Sql, Stations}
 use Rattle.ssim_command_line.specs.declared.board_form.BoardForm.{BoardForm}
 use Rattle.ssim_command_line.specs.declared.command_line.FindingsForm.{FindingsForm}
 use Rattle.ssim_command_line.specs.declared.command_line.DiffForm.{DiffForm}
@@ -74,6 +75,8 @@ use Rattle.ssim_program.specs.print.HistoryRows.{printed_history}
 use Rattle.ssim_program.specs.print.Shown.{findings_lines, shown_on}
 use Rattle.ssim_program.specs.print.StationNotes.{start_lines}
 use Rattle.ssim_program.specs.declared.content_kind.ContentKind.TheVariants as kind
+use Rattle.ssim_program.specs.declared.explain.file_kind.FileKind.{FileKind}
+use Rattle.ssim_program.specs.declared.explain.file_kind.FileKind.TheVariants as file_kind
 use Rattle.ssim_program.specs.declared.refusal.Refusal.TheVariants as refused
 
 -- ---- on a data set
@@ -308,6 +311,18 @@ stations files file = do
   desk ← timetable_in files file
   Gives (flat_map row_line (said_rows (timetable_of desk)))
 
+-- whether a file is a desk file
+abbrev pub is_desk : FileKind → Bool
+is_desk file_kind.Desk = true
+is_desk _ = false
+
+-- the SQL script of a file: of its legs, its messages and what these found
+abbrev pub sql : Option Files → Text → Answer (List ℕ)
+sql files file = do
+  known ← known_in files file
+  carrier ← carrier_of known.1.base.records
+  Gives (script_of carrier (is_desk known.0) known.1)
+
 -- the airline, the season in columns 11 to 13, and the time mode of a carrier record
 abbrev pub heading_of : CarrierFields → PageHeading
 heading_of r = record {
@@ -426,6 +441,7 @@ answers (Listing form words file flights) files = prints (list files form words 
 answers (Calendar words file flights) files = prints (calendar files words file flights)
 answers (Info file) files = prints (info files file)
 answers (Stations file) files = prints (stations files file)
+answers (Sql file) files = prints (sql files file)
 answers (Page from file) files = prints (page files from file)
 answers (Diff form words from to flights) files =
     reports form.status (diff files form words from to flights)

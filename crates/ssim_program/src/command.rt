@@ -32,6 +32,7 @@ pub(crate) mod select;
 pub(crate) mod show;
 pub(crate) mod span;
 pub(crate) mod split;
+pub(crate) mod sql;
 pub(crate) mod start;
 pub(crate) mod stations;
 pub(crate) mod take;
@@ -195,6 +196,7 @@ pub(crate) fn make<'r, S: Store>(
         } => lines(calendar::calendar(alloc, choice, file, flights, store)),
         Request::Info { file } => lines(info::info(alloc, file, store)),
         Request::Stations { file } => lines(stations::stations(alloc, file, store)),
+        Request::Sql { file } => lines(sql::sql(alloc, file, store)),
         Request::Page { from, file } => lines(page::page(alloc, *from, file, store)),
         Request::Diff {
             form,

@@ -4,7 +4,7 @@ ghost use Rattle.std.specs.Prelude.{Bool, List, None, Some};
 ghost use Rattle.ssim_command_line.specs.Line.{Blame, Board, Calendar, Carry, Check, ChoiceTexts, Diff};
 ghost use Rattle.ssim_command_line.specs.Line.{Convert, Export, Findings, Select, SpanTexts};
 ghost use Rattle.ssim_command_line.specs.Line.{History, Info, Listing, Page, Problems, Show, Text, Texts};
-ghost use Rattle.ssim_command_line.specs.Line.{Stations, Tidy, Withdraw};
+ghost use Rattle.ssim_command_line.specs.Line.{Sql, Stations, Tidy, Withdraw};
 ghost use Rattle.ssim_command_line.specs.declared.board_form.BoardForm.{BoardForm};
 ghost use Rattle.ssim_command_line.specs.declared.command_line.DiffForm.{DiffForm};
 ghost use Rattle.ssim_command_line.specs.declared.command_line.FindingsForm.{FindingsForm};
@@ -100,7 +100,7 @@ pub fn equal_desk_files_do_the_same()
 }
 
 /// Of two equal desk files, or of two equal data sets, `show`, `history`, `blame`, `list`, `board`,
-/// `calendar`, `info`, `stations`, `page` and `select` do the same: they print the same bytes, or are
+/// `calendar`, `info`, `stations`, `sql`, `page` and `select` do the same: they print the same bytes, or are
 /// refused for the same. So do `diff` and `page` of two pairs of equal files. `convert` keeps the same
 /// data set, and prints the same.
 pub fn equal_timetables_do_the_same()
@@ -117,6 +117,7 @@ pub fn equal_timetables_do_the_same()
         → DoesTheSame (λ file. Calendar words file flights) }
     ensures info { DoesTheSame Info }
     ensures stations { DoesTheSame Stations }
+    ensures sql { DoesTheSame Sql }
     ensures page { DoesTheSame (Page None) }
     ensures select { (words : ChoiceTexts) (flights : List Text)
         → DoesTheSame (λ file. Select words file flights) }

@@ -217,6 +217,12 @@ returns-in-Stations-clause-answer g c = let old = g.S.Store.files c.args.store.n
     (lines_of g.S.Hold.Hold.file old (answer.stations old c.in-Stations.file.now) c.stations.result
     c.lines-in-Stations.result c.stations.ensures.answer c.lines-in-Stations.ensures)
 
+pub returns-in-Sql-clause-answer : goal.returns-in-Sql-clause-answer
+returns-in-Sql-clause-answer g c = let old = g.S.Store.files c.args.store.now in
+    made_of _ _ _ _ _ c.in-Sql.is
+    (lines_of g.S.Hold.Hold.file old (answer.sql old c.in-Sql.file.now) c.sql.result
+    c.lines-in-Sql.result c.sql.ensures.answer c.lines-in-Sql.ensures)
+
 pub returns-in-Page-clause-answer : goal.returns-in-Page-clause-answer
 returns-in-Page-clause-answer g c = let old = g.S.Store.files c.args.store.now in
     made_of _ _ _ _ _ c.in-Page.is

@@ -3,6 +3,7 @@ use Rattle.ssim_program.proofs.EqualChanges.{diff_alike}
 use Rattle.ssim_program.proofs.EqualFiles.{board_alike, changed_page_alike}
 use Rattle.ssim_program.proofs.EqualFiles.{history_alike, info_alike, page_alike, show_alike}
 use Rattle.ssim_program.proofs.EqualFiles.{stations_alike}
+use Rattle.ssim_program.proofs.EqualScripts.{sql_alike}
 use Rattle.ssim_program.proofs.EqualConversions.{convert_same}
 use Rattle.ssim_program.proofs.EqualParts.{calendar_alike, list_alike, select_alike}
 use Rattle.ssim_program.proofs.laws.equal_timetables_do_the_same.Goals as goal
@@ -21,6 +22,7 @@ returns c =
       calendar = calendar_alike frames one_base no_two;
       info = info_alike frames one_base no_two;
       stations = stations_alike frames one_base no_two;
+      sql = sql_alike frames one_base no_two;
       page = page_alike frames one_base no_two;
       select = select_alike frames one_base no_two;
       convert = convert_same frames one_base no_two;

@@ -1,6 +1,5 @@
 -- The words name flights, or not.
 use Rattle.std.proofs.Common.{◌≡◌, ◌∙◌, Err, List, ℕ, Ok, ap, if◌then◌else◌, inl, inr, map, rules, subst}
-use Rattle.ssim_values.specs.Flight.{FlightNumber}
 use Rattle.ssim_base.specs.Base.{airline_of}
 use Rattle.ssim_schedule.specs.FlightPieces.{in_order}
 use Rattle.ssim_blame.specs.Lines.{blame_lines}
