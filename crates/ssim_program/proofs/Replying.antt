@@ -77,7 +77,7 @@ explained_device asked status p q (inr (is, one, text, printed)) = printed_devic
 -- a refusal that was explained, as it was asked
 pub explained_so : (asked : Bool) (status : ℕ) (p q : Paper) → asked ≡ true → status ≡ 1 → Explained true 1 p q → Explained asked status p q
 explained_so asked status p q is one (inl same) = inl same
-explained_so asked status p q is one (inr (yes, same, text, printed)) = inr (is, one, text, printed)
+explained_so asked status p q is one (inr (asks, same, text, printed)) = inr (is, one, text, printed)
 
 -- ---- all words
 
@@ -97,10 +97,10 @@ devices_run words asked before after err line err' status runs explained =
 
 -- words without `--explain` are the words of the command
 pub without_explain : (words : List Text) → is_explained words ≡ false → command_words words ≡ words
-without_explain [] no = refl
-without_explain (program ∷ []) no = refl
-without_explain (program ∷ word ∷ rest) no =
-    ap (λ (b : Bool). if b then program ∷ rest else program ∷ word ∷ rest) no
+without_explain [] other = refl
+without_explain (program ∷ []) other = refl
+without_explain (program ∷ word ∷ rest) other =
+    ap (λ (b : Bool). if b then program ∷ rest else program ∷ word ∷ rest) other
 
 -- what the words of the command do, explained as the words ask
 pub explained_run : (words left : List Text) (asked : Bool) (before after : World) (err err' : Paper) (status : ℕ) → command_words words ≡ left → is_explained words ≡ asked
