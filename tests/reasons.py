@@ -33,6 +33,8 @@ board {timetable} {station} {date}
 calendar --to {date} {timetable} {flight}
 info {timetable}
 stations {timetable}
+sql {timetable}
+blame {shown} {flight} 342
 diff {timetable} {timetable:to} {flight}
 publish {timetable} {timetable:to} {published} out
 page {timetable}

@@ -3,11 +3,11 @@
 ghost use Rattle.std.specs.Prelude.{◌≡◌};
 
 use super::read_file::{ReadFile, Role, files_read};
-use crate::desk_file::open_intake;
+use crate::desk_file::open_holdings;
 use crate::refusal::Refusal;
 use crate::store::Store;
 use ssim_command_line::Request;
-use ssim_desk::DeskFault;
+use ssim_desk::{DeskFault, Intake};
 use ssim_outbox::OutboxFault;
 use ssim_values::Memory;
 use std::alloc::Global;
@@ -113,9 +113,10 @@ fn refused_text<'a, S: Store>(
     if let [only] = texts {
         return Ok(Some(*only));
     }
-    let Ok(mut desk) = open_intake(alloc, desk, store) else {
+    let Ok(held) = open_holdings(alloc, desk, store) else {
         return Ok(None);
     };
+    let mut desk = Intake::of(held)?;
     for text in texts {
         let is_taken = match text.load(alloc, store)? {
             Some(bytes) => desk.take(&bytes).is_ok(),

@@ -188,6 +188,7 @@ fn push_flights<'a>(words: &mut Vec<&'a str>, request: &Request<'a>) -> Result<(
     match request {
         Request::Texts { flights, .. }
         | Request::Findings { flights, .. }
+        | Request::Blame { flights, .. }
         | Request::List { flights, .. }
         | Request::Calendar { flights, .. }
         | Request::Diff { flights, .. }
@@ -287,6 +288,7 @@ fn flights_file<'a>(request: &Request<'a>) -> Option<&'a str> {
         | Request::Diff { from: file, .. }
         | Request::Select { file, .. }
         | Request::Show { file, .. }
+        | Request::Blame { file, .. }
         | Request::History { file, .. } => Some(*file),
         _ => None,
     }
