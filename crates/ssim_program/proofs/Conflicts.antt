@@ -1,5 +1,5 @@
 -- A refusal for a conflict comes of a text, or of two desks, and these name the two messages.
-use Rattle.std.proofs.Common.{◌≡◌, ◌⊎◌, ◌∙◌, inl, inr, ℕ, List, [], ◌∷◌, ◌++◌, Option, None, Some}
+use Rattle.std.proofs.Common.{Bool, false, ◌≡◌, ◌⊎◌, ◌∙◌, inl, inr, ℕ, List, [], ◌∷◌, ◌++◌, Option, None, Some}
 use Rattle.std.proofs.Common.{Result, Ok, Err, true, true≢false, nat_eq, refl, sym, ap, subst, codes}
 use Rattle.std.proofs.Common.{slice_index_or}
 use Rattle.std.specs.FinMap.{get}

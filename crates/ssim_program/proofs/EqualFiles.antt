@@ -1,6 +1,6 @@
 -- Equal files are read as one value, and what a command makes of it has one outcome. So what it prints
 -- is the same, or its refusal is.
-use Rattle.std.proofs.Common.{◌≡◌, ◌∙◌, ◌⊎◌, inl, inr, ℕ, Bool, true, List, [], ◌∷◌, ◌++◌, Option}
+use Rattle.std.proofs.Common.{false, ◌≡◌, ◌∙◌, ◌⊎◌, inl, inr, ℕ, Bool, true, List, [], ◌∷◌, ◌++◌, Option}
 use Rattle.std.proofs.Common.{Some}
 use Rattle.std.proofs.Common.{None, Ok, Err, length, map, refl, sym, ap, ap₂, subst}
 use Rattle.std.specs.Prelude.{All}

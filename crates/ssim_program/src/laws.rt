@@ -1,6 +1,6 @@
 //! What holds of the bytes that the commands write, and of desk files after any commands.
 
-ghost use Rattle.std.specs.Prelude.{Bool, List, None, Some};
+ghost use Rattle.std.specs.Prelude.{Bool, List, None, Some, false};
 ghost use Rattle.ssim_command_line.specs.Line.{Blame, Board, Calendar, Carry, Check, ChoiceTexts, Diff};
 ghost use Rattle.ssim_command_line.specs.Line.{Convert, Export, Findings, Select, SpanTexts};
 ghost use Rattle.ssim_command_line.specs.Line.{History, Info, Listing, Page, Problems, Show, Text, Texts};

@@ -24,7 +24,6 @@ use ssim_guide::{
     words_on_continuation, words_on_line, words_on_offset, words_on_overflow, words_on_overlap,
     words_on_record, words_on_type,
 };
-use ssim_records::RecordFault;
 use ssim_text::{TextFault, decode};
 use ssim_values::Memory;
 use std::alloc::{AllocError, Global};
@@ -228,11 +227,11 @@ fn words_on_refused(
         Refusal::DataSet(BaseFault::Refused(_, BaseRefusal::Continuation)) => {
             words_on_continuation(alloc, bytes, record)
         }
+        Refusal::DataSet(BaseFault::Refused(_, BaseRefusal::BadType)) => {
+            words_on_type(alloc, bytes, record)
+        }
         Refusal::DataSet(BaseFault::Refused(_, why)) => {
             words_on_record(alloc, bytes, record, column_of(*why))
-        }
-        Refusal::DataSet(BaseFault::Read(RecordFault::BadType { .. })) => {
-            words_on_type(alloc, bytes, record)
         }
         _ => words_on_record(alloc, bytes, record, None),
     }

@@ -86,8 +86,8 @@ impl Rowed<FlightDate<'_>> for DateStep {
         let reference = text_of(alloc, &self.reference)?;
         let sub = text_of(alloc, &self.sub)?;
         let action = text_of(alloc, &self.action)?;
-        let found = word_of(self.reason).as_bytes();
-        let fields: [&[u8]; 6] = [shown.name, shown.date, &reference, &sub, &action, found];
+        let found = Vec::from_slice(alloc, word_of(self.reason).as_bytes())?;
+        let fields: [&[u8]; 6] = [shown.name, shown.date, &reference, &sub, &action, &found];
         if self.reason == Reason::Acted {
             push_legs(rows, &fields, self.itinerary.legs())
         } else {

@@ -1,5 +1,5 @@
 -- What the printers have is what their writers hold.
-use Rattle.std.proofs.Common.{◌≡◌, ℕ, List, Option, rules, subst}
+use Rattle.std.proofs.Common.{◌≡◌, ℕ, List, Option, map, rules, subst}
 use Rattle.ssim_command_line.specs.Line.{Text}
 use Rattle.ssim_program.specs.Files.{Files}
 use Rattle.ssim_program.specs.Runs.{Runs}
@@ -19,5 +19,10 @@ returns-clause-runs g c = (
   _,
   search rules,
   search rules,
-  over _ _ _ _ _ _ _ _ _ _ c.new-printed.ensures c.new-reasons.ensures c.run_on-status.ensures.runs,
+  over (map (λ w. w.now) c.args.words.now) (g.S.Store.files c.args.store.now)
+      (g.S.Store.failures c.args.store.now)
+      (world (g.S.Store.files c.run_on-status.new.store) (g.S.Store.failures c.run_on-status.new.store)
+      c.run_on-status.new.out)
+      c.run_on-status.new.err c.run_on-status.result _ _ _ _
+      c.new-printed.ensures c.new-reasons.ensures c.run_on-status.ensures.runs,
 )

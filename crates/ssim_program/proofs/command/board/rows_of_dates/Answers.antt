@@ -1,6 +1,7 @@
 -- The rows of one date more, of flights that are right near it.
 use Rattle.std.proofs.Common.{◌≡◌, ◌∙◌, ◌≤◌, ◌<◌, ◌-◌, ◌++◌, [], ℕ, zero, List, ap, append-nil, subst, sym, arith}
 use Rattle.std.specs.List.{flat_map, range_with_len}
+use Rattle.std.proofs.lemmas.Result.{IfOk-weaker}
 use Rattle.ssim_schedule.specs.clauses.Dates.{AgreeBetween}
 use Rattle.ssim_board.specs.Rows.{movement_names}
 use Rattle.ssim_board.specs.clauses.Movements.{first_date, last_date}
@@ -51,14 +52,18 @@ loop-number-preserved c =
     }
 
 pub returns : goal.returns
-returns c = λ days near e agree.
+returns c =
+    IfOk-weaker c.into_bytes.result _ _
+    (λ bytes of days near e agree.
     let board = c.args.board.now in
     let number = c.loop-number.number in
     let ended = c.loop-number-test.false in
     let begun = c.loop-number.invariant.begun in
     let within = c.loop-number.invariant.within in
     let count : number - board.day ≡ c.args.end - board.day = omega (arith, ended, begun, within) in
-    c.loop-number.invariant.so_far days near e agree
+    of
+    ∙ c.loop-number.invariant.so_far days near e agree
     ∙ ap (λ (n : ℕ). row movement_names
     ++ flat_map (λ day. date_rows c.args.only c.args.airline days (board_on board day))
-    (range_with_len board.day n)) count
+    (range_with_len board.day n)) count)
+    c.into_bytes.ensures

@@ -16,7 +16,8 @@ pub returns-in_err-other-clause-answer : goal.returns-in_err-other-clause-answer
 returns-in_err-other-clause-answer g c =
     let why = c.in_err-other.field-0.0 in
     let same = c.open_holdings.ensures.same ∙ c.hold.ensures.same in
-    let is : c.from_residual-in_err-other.result ≡ Err why = search rules in
+    let err = err_from_is_err_and c.from_residual-in_err-other.result c.from_residual-in_err-other.ensures.1 in
+    let is : c.from_residual-in_err-other.result ≡ Err why = err.1 ∙ ap (λ (e : Refusal). Err e) err.2 in
     let read =
     subst (λ (f : Option Files). desk_in f c.args.mine.now (Ok c.in_ok-desk.desk))
     c.hold.ensures.same c.in_ok-desk.ensures.answer in

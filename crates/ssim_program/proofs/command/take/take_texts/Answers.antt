@@ -29,6 +29,7 @@ loop-name-preserved g c =
     let one = (get_or names i (record { ref_ptr = (0, 0); now = [] })).now in let rest_names = drop (i + 1) (map (λ t. t.now) names) in
     let next = next_word (λ t. t.now) names i (record { ref_ptr = (0, 0); now = [] }) c.loop-name-test.true in
     record {
+      asked = c.loop-name.invariant.asked;
       files = c.take_text.ensures.same ∙ c.loop-name.invariant.files;
       through = λ after r rest. c.loop-name.invariant.through after r
           (over files effects first out _ _ desk w after r next
@@ -73,6 +74,7 @@ loop-name-init g c =
     let names = map (λ t. t.now) c.args.taking.now.names.now in
     let w = world (g.S.Store.files c.args.store.now) (g.S.Store.failures c.args.store.now) c.args.out.now in
     record {
+      asked = c.in_ok-before.ensures;
       files = refl;
       through = λ after r does.
           subst (λ (d : DeskSeen). Does (take_each files c.args.taking.now.effects c.args.desk out names d) w after r) c.in_ok-intake.ensures does;
@@ -114,7 +116,7 @@ returns g c =
     let v = world (g.S.Store.files c.end_texts.new.store) (g.S.Store.failures c.end_texts.new.store) c.end_texts.new.out in
     let r = c.end_texts.result in
     let none = no_word (λ t. t.now) names i c.loop-name-test.false in
-    let done = subst (λ (f : Option Files). Does (take_each f effects first out [] c.in_ok-after.after) w v r) c.loop-name.invariant.files (c.end_texts.ensures effects first c.in_ok-before.ensures) in
+    let done = subst (λ (f : Option Files). Does (take_each f effects first out [] c.in_ok-after.after) w v r) c.loop-name.invariant.files (c.end_texts.ensures effects first c.loop-name.invariant.asked) in
     c.loop-name.invariant.through v r
     (over files effects first out _ _ c.loop-name.intake w v r none
     (subst (λ (d : DeskSeen). Does (take_each files effects first out [] d) w v r) c.in_ok-after.ensures done))

@@ -14,7 +14,8 @@ use Rattle.ssim_program.proofs.command.withdraw.withdraw.Goals as goal
 
 pub returns-in_err-lines-clause-answer : goal.returns-in_err-lines-clause-answer
 returns-in_err-lines-clause-answer g c =
-    let is : c.from_residual-in_err-lines.result ≡ Err c.in_err-lines.field-0.0 = search rules in
+    let err = err_from_is_err_and c.from_residual-in_err-lines.result c.from_residual-in_err-lines.ensures.1 in
+    let is : c.from_residual-in_err-lines.result ≡ Err c.in_err-lines.field-0.0 = err.1 ∙ ap (λ (e : Refusal). Err e) err.2 in
     let read = subst (λ (f : Option Files). desk_in f c.args.file.now (Ok c.in_ok-desk.desk)) c.hold.ensures.same c.in_ok-desk.ensures.ok in
     rw is (inr (tt, c.in_ok-place.ensures.held, inr (c.in_ok-desk.desk, read, inl c.in_err-lines.ensures.why)))
 
