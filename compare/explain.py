@@ -2,8 +2,8 @@
 
 Each file is one of samples/ (a data set, a station table, a message, a script, or a desk file made of them) with one to three places
 altered, but not its first line, by which `explain` sees what the file is; or a mailbox of messages, in envelopes or not, with or without the
-headers of a mail. The first line that `explain` prints has to be the refusal of the command that reads such a file; or `valid ..` if the
-command refuses the file for nothing that is within it. Of a mailbox it has to count the texts and those that are no message, and each of
+headers of a mail. The first line that `explain` prints has to be the refusal of the command that reads such a file; or `valid` and its kind if
+the command refuses the file for nothing that is within it. Of a mailbox it has to count the texts and those that are no message, and each of
 these has to have its refusal, with the line of the file.
 """
 import os
@@ -67,9 +67,9 @@ def make(rng, room, kind):
     """The kind of a file, and its bytes, which the command reads."""
     shutil.copytree(os.path.join(TOP, "samples"), room.folder, dirs_exist_ok=True)
     texts = sorted(f"texts/{name}" for name in os.listdir(room.path("texts")))
-    room("start", "season.ssim", "stations.txt", "empty")
-    room("take", "empty", "full", *texts[:4])
-    sources = {"data set": ["season.ssim"], "station table": ["stations.txt"], "message": texts, "desk file": ["empty", "full"],
+    room("start", "season.ssim", "stations.txt", "empty.desk")
+    room("take", "empty.desk", "full.desk", *texts[:4])
+    sources = {"data set": ["season.ssim"], "station table": ["stations.txt"], "message": texts, "desk file": ["empty.desk", "full.desk"],
                "script": ["rehearsal.txt", "conflict.txt"]}
     if kind == "mailbox":
         data = mailbox_of(rng, [room.read(name) for name in rng.sample(texts, rng.randrange(1, 4))])
@@ -86,7 +86,7 @@ def refusal(room, kind, name="broken"):
     words = {
         "data set": ["check", name],
         "station table": ["start", "season.ssim", name, "out"],
-        "message": ["take", "empty", "out", name],
+        "message": ["take", "empty.desk", "out", name],
         "desk file": ["findings", name],
         "script": ["rehearse", "season.ssim", "stations.txt", name],
     }[kind]
@@ -95,13 +95,29 @@ def refusal(room, kind, name="broken"):
     return line.rstrip("\n") if len(parts) > 1 and parts[1].isdigit() and int(parts[1]) in WITHIN[kind] else ""
 
 
+# The first bytes of the files of other programs.
+FOREIGN = [(b"\x1f\x8b", "gzip"), (b"PK\x03\x04", "zip"), (b"PK\x05\x06", "zip"), (b"%PDF-", "pdf"), (b"\xff\xfe", "utf-16"),
+           (b"\xfe\xff", "utf-16"), (b"\xef\xbb\xbf", "utf-8-mark"), (b"\xf1\xc1", "ebcdic")]
+FIRST_WORDS = {b"SSIMDESK": "desk file", b"DESKS": "script"}
+# What `explain` calls a valid file of a kind, where that is another name.
+NAMES = {"message": "text", "script": "desk script"}
+
+
 def taken_for(data):
-    """The kind of a file of mail, by its first line that is not empty."""
+    """The kind of a file, by its first line that is not empty."""
     data = data.lstrip(b" \t\n\x0c\r")
     first = data.split(b"\n")[0].rstrip(b"\r ")
     if not data or first[:1].isdigit():
         return "data set"
-    return "message" if first.startswith(b".") or len(first.split(b" ")) == 1 else "station table"
+    word, _, more = first.partition(b" ")
+    return FIRST_WORDS.get(word) or ("message" if first.startswith(b".") or not more else "station table")
+
+
+def foreign(data):
+    """The other program of a file, by its first bytes; an empty text if there is none."""
+    if data.lstrip(b" \r\n").startswith(b"<"):
+        return "markup"
+    return next((name for first, name in FOREIGN if data.startswith(first)), "")
 
 
 def lines_on_mailbox(room, texts):
@@ -114,26 +130,28 @@ def lines_on_mailbox(room, texts):
     return [f"mailbox texts {len(texts)} refused {len(found)}", *found]
 
 
-def lines_wanted(room, kind):
-    """The first line that has to be printed, of a mailbox with those of the refusals of its texts."""
-    data = room.read("broken")
-    kind = taken_for(data) if kind == "mailbox" else kind
-    line = refusal(room, kind)
+def lines_wanted(room, name):
+    """The first line that has to be printed of a file, and of a mailbox those of the refusals of its texts."""
+    data = room.read(name)
+    kind = taken_for(data)
+    line = refusal(room, kind, name)
+    if line and foreign(data):
+        return [f"foreign {foreign(data)}"]
     if line and kind in ("message", "station table"):
         texts = mail.Mailbox(data).texts()
         if mail.is_mailbox(data, texts):
             return lines_on_mailbox(room, texts)
         if mail.begins_mail(data) and not any(mail.has_message(text) for _, text in texts):
             return ["foreign mail"]
-    return [line or "valid "]
+    return [line or f"valid {NAMES.get(kind, kind)}"]
 
 
 def compared(_, room, kind):
-    wanted, answer = lines_wanted(room, kind), room("explain", "broken")
-    lines = answer.out.decode("latin-1").split("\n")
-    first = [lines[0][:6]] if wanted == ["valid "] else [lines[0], *[line for line in lines[1:] if line.startswith("refused ")]]
+    wanted, answer = lines_wanted(room, "broken"), room("explain", "broken")
+    lines = answer.out.decode("latin-1").splitlines()
+    shown = [lines[0], *[line for line in lines[1:] if line.startswith("refused ")]]
     room.counts[f"{kind}: {wanted[0].split(' ')[0]}"] += 1
-    yield "explain broken", (answer.status, first, answer.err), (0, wanted, "")
+    yield "explain broken", (answer.status, shown, answer.err), (0, wanted, "")
     asked = room("explain", "broken", "--status")
-    found = wanted != ["valid "] and not re.fullmatch(r"mailbox texts \d+ refused 0", wanted[0])
+    found = not re.fullmatch(r"valid .*|mailbox texts \d+ refused 0", wanted[0])
     yield "explain --status broken", asked, answer._replace(status=3 if found else 0)

@@ -1,6 +1,6 @@
-"""Flights, dates and stations as people type them, beside the words that they mean.
+"""Flights, dates, stations and aircraft types as people type them, beside the words that they mean.
 
-Each case is a word for FLIGHT, DATE or STATION, spelled in any of the forms of docs/FORMATS.md, or altered so that it may be none. A command
+Each case is a word for FLIGHT, DATE, STATION or TYPE, spelled in any of the forms of docs/FORMATS.md, or altered so that it may be none. A command
 with it prints what the command with the one usual spelling prints, or is refused by the number of such words. What a word means is read
 here by a regular expression and by Python's dates.
 """
@@ -13,7 +13,8 @@ TOP = os.path.dirname(os.path.dirname(os.path.abspath(__file__)))
 MONTHS = ["JAN", "FEB", "MAR", "APR", "MAY", "JUN", "JUL", "AUG", "SEP", "OCT", "NOV", "DEC"]
 FLIGHTS = ["Z7101", "Z7103", "Z7121", "Z7341", "Z7501D", "Z77341", "LX0544", "SWR12A", "5A1"]
 STATIONS = ["FDH", "HAM", "PMI", "XXX"]
-KINDS = ["flight", "date", "station"]
+AIRCRAFT = ["320", "E90", "32N", "AT7"]
+KINDS = ["flight", "date", "station", "aircraft"]
 
 
 def meant_date(word):
@@ -32,11 +33,11 @@ def meant_date(word):
     return f"{date.day:02}{MONTHS[date.month - 1]}{date.year % 100:02}"
 
 
-def meant_flight(word):
-    """The usual spelling of the flight that a word means; None if it is none."""
+def meant_flight(word, airline="Z7"):
+    """The usual spelling of the flight that a word means in a file of an airline; None if it is none."""
     if re.fullmatch(r"([A-Z]{3}|[A-Z][A-Z0-9]|[0-9][A-Z])\d{1,4}[A-Z]?", word):
         return word
-    return f"Z7{word}" if re.fullmatch(r"\d{1,4}[A-Z]?", word) else None
+    return f"{airline}{word}" if re.fullmatch(r"\d{1,4}[A-Z]?", word) else None
 
 
 def meant(kind, word):
@@ -44,13 +45,15 @@ def meant(kind, word):
     word = word.replace(" ", "").translate({code: code - 32 for code in range(ord("a"), ord("z") + 1)})
     if kind == "station":
         return word if re.fullmatch(r"[A-Z]{3}", word) else None
+    if kind == "aircraft":
+        return word if re.fullmatch(r"[A-Z0-9]{1,3}", word) else None
     return meant_date(word) if kind == "date" else meant_flight(word)
 
 
 def spelled(rng, kind):
     """A word, in one of its forms."""
-    if kind == "station":
-        return rng.choice(STATIONS)
+    if kind in ("station", "aircraft"):
+        return rng.choice(STATIONS if kind == "station" else AIRCRAFT)
     if kind == "flight":
         flight = rng.choice(FLIGHTS)
         return flight[2:] if flight.startswith("Z7") and rng.randrange(2) else flight
@@ -83,9 +86,11 @@ def make(rng, room, kind):
 COMMANDS = {
     "flight": [["show", "desk", None, "12JUL27"], ["calendar", "season.ssim", None], ["list", "desk", "--", None], ["texts", "desk", None]],
     "date": [["show", "desk", "Z7101", None], ["board", "desk", "FDH", None], ["history", "desk", "Z7101", None]],
-    "station": [["board", "season.ssim", None, "12JUL27"]],
+    "station": [["board", "season.ssim", None, "12JUL27"], ["list", "--station", None, "desk"]],
+    "aircraft": [["list", "--aircraft", None, "desk"], ["select", "--aircraft", None, "season.ssim"]],
 }
-REFUSALS = {"flight": "refused 6 BadDesignator\n", "date": "refused 1 BadDate\n", "station": "refused 3 BadStation\n"}
+REFUSALS = {"flight": "refused 6 BadDesignator\n", "date": "refused 1 BadDate\n", "station": "refused 3 BadStation\n",
+            "aircraft": "refused 25 BadEquipment\n"}
 
 
 def compared(rng, room, case):

@@ -10,6 +10,8 @@ import shutil
 import subprocess
 import tempfile
 
+from odd_files import over
+
 TOP = os.path.dirname(os.path.dirname(os.path.abspath(__file__)))
 
 # The commands, by what each word is. A name after a colon is how the word differs from another of its kind.
@@ -35,7 +37,7 @@ info {timetable}
 stations {timetable}
 sql {timetable}
 blame {shown} {flight} 342
-diff {timetable} {timetable:to} {flight}
+diff --from {date} --to {date:to} --station {station} {timetable} {timetable:to} {flight}
 publish {timetable} {timetable:to} {published} out
 page {timetable}
 page {timetable} {timetable:to}
@@ -107,11 +109,6 @@ TOGETHER = [
 ]
 
 
-def over(line, column, text):
-    """A record with other bytes from a column on."""
-    return line[: column - 1] + text + line[column - 1 + len(text) :]
-
-
 def many_variations(records):
     """A data set with a flight that has other times on each of a hundred days."""
     head, leg, tail = records[:2], next(record for record in records if record[:1] == b"3"), records[-1]
@@ -127,40 +124,46 @@ def many_variations(records):
     return b"\n".join(made) + b"\n"
 
 
+def fill(room):
+    """Writes the samples into the folder of a room, and bad files of each kind. A room that is called runs a command there."""
+    shutil.copytree(os.path.join(TOP, "samples"), room.folder, dirs_exist_ok=True)
+    season = room.read("season.ssim")
+    records = season.split(b"\n")[:-1]
+    legs = [at for at, record in enumerate(records) if record[:1] == b"3"]
+    room.write("cut.ssim", season[:-100])
+    room.write("type.ssim", season.replace(records[legs[1]], over(records[legs[1]], 1, b"7")))
+    room.write("column.ssim", season.replace(records[legs[1]], over(records[legs[1]], 37, b"1")))
+    room.write("twice.ssim", b"\n".join([*records[: legs[0] + 1], *records[legs[0] :]]) + b"\n")
+    room.write("none.gz", b"\x1f\x8b\x08\x00" + bytes(300))
+    room.write("broken.txt", room.read("stations.txt") + b"HAM\n")
+    room.write("broken-script", b"DESKS 2\nTAKE 3 texts/01-holiday.ssm\n")
+    text = room.read("texts/14-no-such-date.ssm")
+    room.write("other.ssm", text.replace(b"31APR27 31APR27 5", b"30APR27 30APR27 5\n//\nCNL\nLX1\n30APR27 30APR27 5"))
+    room.write("ended.ssm", text.replace(b"31APR27 31APR27 5", b"30APR27 29APR27 5"))
+    room.write("other.asm", b".HAMOPZ7\nASM\nLT\n17MAR00005E001\nCNL\nLX1/30APR\n")
+    room.write("leap.ssm", text.replace(b"31APR27 31APR27 5", b"01MAR97 01MAR97 5\n//\nCNL\nZ7111\n29FEB 29FEB 1"))
+    room.write("mode.asm", b".HAMOPZ7\nASM\n17MAR00005E001\nCNL\nZ7111/30APR\n")
+    room.write("conflict.ssm", room.read("texts/01-holiday.ssm").replace(b"Z7104", b"Z7111"))
+    lx = b"\n".join(over(record, 3, b"LX ") if record[:1] in b"2345" else record for record in records) + b"\n"
+    room.write("lx.ssim", lx)
+    room.write("many.ssim", many_variations(records))
+    room.write("late.ssim", season.replace(records[1], over(records[1], 29, b"01NOV99")))
+    room.write("ending.ssim", b"\n".join([records[0], over(records[1], 15, b"01MAR9731DEC9901MAR97"), records[-1], b""]))
+    room("start", "season.ssim", "stations.txt", "empty.desk")
+    room("take", "empty.desk", "fdh.desk", "texts/01-holiday.ssm", "texts/03-larger-aircraft.ssm")
+    room("take", "empty.desk", "conflict.desk", "conflict.ssm")
+    for name in ("lx", "many", "late", "ending"):
+        room("start", f"{name}.ssim", "stations.txt", f"{name}.desk")
+    room("convert", "utc", "season.ssim", "utc.ssim")
+    room.write("broken.desk", room.read("fdh.desk")[:-5])
+
+
 class Room:
-    """A folder with the samples, and with bad files of each kind."""
+    """A folder with the files of `fill`."""
 
     def __init__(self, program, folder):
         self.program, self.folder = program, folder
-        shutil.copytree(os.path.join(TOP, "samples"), folder, dirs_exist_ok=True)
-        season = self.read("season.ssim")
-        records = season.split(b"\n")[:-1]
-        legs = [at for at, record in enumerate(records) if record[:1] == b"3"]
-        self.write("cut.ssim", season[:-100])
-        self.write("type.ssim", season.replace(records[legs[1]], over(records[legs[1]], 1, b"7")))
-        self.write("column.ssim", season.replace(records[legs[1]], over(records[legs[1]], 37, b"1")))
-        self.write("twice.ssim", b"\n".join([*records[: legs[0] + 1], *records[legs[0] :]]) + b"\n")
-        self.write("none.gz", b"\x1f\x8b\x08\x00" + bytes(300))
-        self.write("broken.txt", self.read("stations.txt") + b"HAM\n")
-        self.write("broken-script", b"DESKS 2\nTAKE 3 texts/01-holiday.ssm\n")
-        text = self.read("texts/14-no-such-date.ssm")
-        self.write("other.ssm", text.replace(b"31APR27 31APR27 5", b"30APR27 30APR27 5\n//\nCNL\nLX1\n30APR27 30APR27 5"))
-        self.write("ended.ssm", text.replace(b"31APR27 31APR27 5", b"30APR27 29APR27 5"))
-        self.write("other.asm", b".HAMOPZ7\nASM\nLT\n17MAR00005E001\nCNL\nLX1/30APR\n")
-        self.write("mode.asm", b".HAMOPZ7\nASM\n17MAR00005E001\nCNL\nZ7111/30APR\n")
-        self.write("conflict.ssm", self.read("texts/01-holiday.ssm").replace(b"Z7104", b"Z7111"))
-        lx = b"\n".join(over(record, 3, b"LX ") if record[:1] in b"2345" else record for record in records) + b"\n"
-        self.write("lx.ssim", lx)
-        self.write("many.ssim", many_variations(records))
-        self.write("late.ssim", season.replace(records[1], over(records[1], 29, b"01NOV99")))
-        self.run("start", "season.ssim", "stations.txt", "empty.desk")
-        self.run("take", "empty.desk", "fdh.desk", "texts/01-holiday.ssm", "texts/03-larger-aircraft.ssm")
-        self.run("take", "empty.desk", "conflict.desk", "conflict.ssm")
-        self.run("start", "lx.ssim", "stations.txt", "lx.desk")
-        self.run("start", "many.ssim", "stations.txt", "many.desk")
-        self.run("start", "late.ssim", "stations.txt", "late.desk")
-        self.run("convert", "utc", "season.ssim", "utc.ssim")
-        self.write("broken.desk", self.read("fdh.desk")[:-5])
+        fill(self)
 
     def write(self, name, data):
         with open(os.path.join(self.folder, name), "wb") as file:
@@ -178,7 +181,7 @@ class Room:
             os.remove(os.path.join(self.folder, name))
         return names, kept
 
-    def run(self, *words, set_to=None, given=b""):
+    def __call__(self, *words, set_to=None, given=b""):
         """The status of the program, what it printed, and the files."""
         env = {name: value for name, value in os.environ.items() if name != "SSIMDESK_EXPLAIN"}
         if set_to is not None:
@@ -224,10 +227,10 @@ def kinds(line):
 
 def rest_wanted(room, line, about, rest):
     """Whether the lines after that of the file or the word are right: of `explain FILE`, or of `explain NUMBER` after other lines."""
-    of_number = room.run("explain", line.split()[1])[1].decode().splitlines()[1:]
+    of_number = room("explain", line.split()[1])[1].decode().splitlines()[1:]
     if about is None or about.startswith("["):
         return rest == of_number
-    of_file = room.run("explain", about)[1].decode("utf-8", "replace").splitlines()
+    of_file = room("explain", about)[1].decode("utf-8", "replace").splitlines()
     if rest and rest[0].startswith("looks like: "):
         shown = rest.pop(0).partition(": ")[2]
         if not (kinds(of_file[0]) == shown or f"valid {shown}" == of_file[0] or of_file[0].startswith("refused ")):
@@ -243,12 +246,12 @@ def rest_wanted(room, line, about, rest):
 
 def fault(room, words, number, about):
     """What is wrong with what is printed with `--explain`; an empty text if nothing is."""
-    status, out, err, files = room.run(*words)
-    asked = room.run("--explain", *words)
-    for told in (room.run(*words, set_to="1"), room.run("--explain", *words, set_to="yes")):
+    status, out, err, files = room(*words)
+    asked = room("--explain", *words)
+    for told in (room(*words, set_to="1"), room("--explain", *words, set_to="yes")):
         if told != asked:
             return f"the variable does not do what the option does: {told}"
-    if room.run(*words, set_to="") != (status, out, err, files):
+    if room(*words, set_to="") != (status, out, err, files):
         return "the empty variable is taken for one that is set"
     if (asked[0], asked[1], asked[3]) != (status, out, files):
         return f"the status, the standard output or the files are others: {asked}"
@@ -267,10 +270,10 @@ def shown_message_lines(room):
     """The line of a text that is shown of each refusal by a desk."""
     for desk, name, line in (
         ("fdh.desk", "texts/15-utc.ssm", "UTC"), ("fdh.desk", "other.ssm", "LX1"), ("fdh.desk", "ended.ssm", "30APR27 29APR27 5"),
-        ("late.desk", "texts/01-holiday.ssm", "15MAR00001E001"),
+        ("late.desk", "texts/01-holiday.ssm", "15MAR00001E001"), ("ending.desk", "leap.ssm", "29FEB 29FEB 1"),
         ("fdh.desk", "other.asm", "LX1/30APR"), ("fdh.desk", "mode.asm", "ASM"),
     ):
-        err = room.run("--explain", "take", desk, "out", name)[2]
+        err = room("--explain", "take", desk, "out", name)[2]
         yield f"the line of {name} that is shown", "" if f"\nline: [{line}]\n" in err else err
 
 
@@ -278,13 +281,13 @@ def other_words(room):
     """Words that are no refused command are as without the option."""
     for words in ([], ["--help"], ["--version"], ["check"], ["nothing"], ["--explain", "check", "season.ssim"], ["check", "--explain", "season.ssim"],
                   ["diff", "--status", "season.ssim", "planned.ssim"], ["check", "season.ssim"], ["help", "list"]):
-        plain = room.run(*words)
-        asked = room.run("--explain", *words)
+        plain = room(*words)
+        asked = room("--explain", *words)
         if words[:1] == ["--explain"]:
             yield f"{words} twice", "" if asked[0] == 2 and asked[1] == b"" else str(asked)
             continue
         yield f"{words} with --explain", "" if plain == asked else str(asked)
-        yield f"{words} with the variable", "" if plain == room.run(*words, set_to="1") else str(words)
+        yield f"{words} with the variable", "" if plain == room(*words, set_to="1") else str(words)
 
 
 def standard_input(room):
@@ -296,10 +299,10 @@ def standard_input(room):
         (["merge", "fdh.desk", "-", "out"], room.read("broken.desk"), 62),
         (["merge", "-", "fdh.desk", "out"], room.read("broken.desk"), 62),
     ):
-        status, _, err, _ = room.run("--explain", *words, given=given)
+        status, _, err, _ = room("--explain", *words, given=given)
         lines = err.splitlines()
         right = status == 1 and lines[0].startswith(f"refused {number} ") and lines[1] == "file: -"
-        of_number = room.run("explain", str(number))[1].decode().splitlines()[1:]
+        of_number = room("explain", str(number))[1].decode().splitlines()[1:]
         yield f"{words} of the standard input", "" if right and lines[2:] == of_number else f"{status} {err}"
 
 
