@@ -28,10 +28,10 @@ class Room:
         self.peer = Room(f"{folder}.peer", peer) if peer else None
         os.makedirs(folder)
 
-    def __call__(self, *words, given=b"", full=False):
-        """The answer to a command; `full` is for a full device as standard output."""
+    def __call__(self, *words, given=b"", full=False, env=None):
+        """The answer to a command; `full` is for a full device as standard output, `env` has variables of the environment."""
         with open("/dev/full" if full else os.devnull, "wb") as device:
-            done = subprocess.run([self.program, *words], cwd=self.folder, input=given, timeout=600, check=False,
+            done = subprocess.run([self.program, *words], cwd=self.folder, input=given, timeout=600, check=False, env={**os.environ, **(env or {})},
                                   stdout=device if full else subprocess.PIPE, stderr=subprocess.PIPE)
         return Answer(done.returncode, done.stdout or b"", done.stderr.decode("latin-1"))
 
@@ -55,6 +55,9 @@ class Room:
         paths = (os.path.join(at, name) for at, _, names in os.walk(self.folder) for name in names)
         names = sorted(os.path.relpath(path, self.folder) for path in paths)
         return {name: self.read(name) for name in names}
+
+    def remove(self, name):
+        os.remove(self.path(name))
 
     def copy(self, name, new):
         """Copies a file, if it is there."""

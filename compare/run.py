@@ -1,7 +1,7 @@
 #!/usr/bin/env python3
 """Compares a program with a plain model on seeded cases: run.py MODEL PROGRAM [--cases N] [--seed N] [--kind KIND] [--jobs N] [PEER]
 
-MODEL is a module of this folder, whose doc string says what is compared. `blame`, `carry`, `commands`, `convert`, `data_sets`, `days`, `desk_files`, `effects`, `explain`, `parts`, `problems`, `publish`, `receive`, `since`, `split`, `sql`, `views`, `words`,
+MODEL is a module of this folder, whose doc string says what is compared. `commands`, `data_sets`, `desk_files` and `problems` compare with PEER,
 another program of the same requirement.
 
 Each of N (200) cases has a folder of its own, and a random number generator by the seed (1) and its number. The model makes a case of KIND,
@@ -19,11 +19,14 @@ import shutil
 import sys
 import tempfile
 
-sys.path.insert(0, os.path.join(os.path.dirname(os.path.dirname(os.path.abspath(__file__))), "make"))
+TOP = os.path.dirname(os.path.dirname(os.path.abspath(__file__)))
+sys.path.insert(0, os.path.join(TOP, "make"))
+sys.path.append(os.path.join(TOP, "tests"))
 
 from room import Answer, Room
 
-MODELS = ["blame", "carry", "convert", "days", "effects", "explain", "parts", "publish", "receive", "since", "split", "sql", "views", "words"]
+MODELS = ["blame", "carry", "convert", "days", "effects", "explain", "parts", "publish", "receive", "refused", "since", "split", "sql", "views",
+          "words"]
 WITH_PEER = ["commands", "data_sets", "desk_files", "problems"]
 SHOWN = 5
 
