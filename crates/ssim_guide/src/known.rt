@@ -60,9 +60,9 @@ fn first_part(line: &[u8]) -> &[u8] {
     cut(word, b'/').0
 }
 
-/// Whether a line begins with a flight.
+/// Whether a line is a flight, perhaps with a date. A leg may begin with what looks like one.
 fn has_flight(line: &[u8]) -> bool {
-    Designator::parse(first_part(line)).is_ok()
+    Designator::parse(cut(line, b'/').0).is_ok()
 }
 
 /// Whether a line begins with two dates.

@@ -2,7 +2,7 @@
 
 use crate::known::known_at;
 use crate::lines::{push_line, push_shown};
-use ssim_text::cut;
+use ssim_text::{cut, without_end};
 use std::alloc::{AllocError, Global};
 
 /// The lines on the line with this number, from 1, at which a refusal has the number `refusal`: its
@@ -64,7 +64,7 @@ fn allowed_at(refusal: u8) -> Option<&'static str> {
     }
 }
 
-/// The bytes of the line with this number, without its LF.
+/// The bytes of the line with this number, without its LF and the CR bytes and blanks before it.
 fn line_at(bytes: &[u8], number: u64) -> Option<&[u8]> {
     let mut rest = bytes;
     for _ in 1..number {
@@ -74,7 +74,7 @@ fn line_at(bytes: &[u8], number: u64) -> Option<&[u8]> {
     if rest.is_empty() {
         return None;
     }
-    Some(cut(rest, b'\n').0)
+    Some(without_end(cut(rest, b'\n').0))
 }
 
 /// The bytes from this offset on, if there are any.
