@@ -16,6 +16,7 @@ import odd_files
 import reasons
 import refusals
 import words as typed
+from chapter7 import OPEN_END, date, dates_of, day_of
 
 KINDS = ["files"] * 4 + ["words"] * 2 + ["texts"] * 3 + ["bases"] * 2 + ["input", "any"]
 FILE_NAMES = ["broken", "b d", "b\\d", "b\x01d", "b\u202ed", "b\u00fc"]
@@ -38,8 +39,9 @@ ALONE = {
 }
 # A reference as `take` prints it.
 REFERENCE = re.compile(r"[SA]SM (\d\d[A-Z]{3}\d\d) \d{5} \d{3}( [A-Z0-9]{7})?")
-# The lines of `explain FILE` of which docs/ have no words.
-OWN_LINES = ("field: ", "found: ", "allowed: ", "other record: ", "its number: ", "common date: ", "line: the file ends")
+# The lines of `explain FILE` of which docs/ have no words, and those on an overlap.
+OWN_LINES = ("field: ", "found: ", "allowed: ", "other record: ", "its number: ", "common date: ",
+             "line: the file ends", "element: the file ends")
 
 ACTIONS = ("NEW", "CNL", "RPL", "EQT", "TIM")
 SEVERAL = "24 at a flight or at a frequency rate; 25, 26 or 27 at a period"
@@ -123,7 +125,7 @@ def broken(rng, room, kind):
     if how == 4:
         return explain.mailbox_of(rng, [room.read(name) for name in ("texts/01-holiday.ssm", "texts/14-no-such-date.ssm")])
     if how == 5:
-        return rng.choice([*odd_files.known_texts()])[1]
+        return rng.choice(odd_files.known_texts())[1]
     if how == 6:
         return rng.choice([*odd_files.carriers_files(), *(data for data, _ in odd_files.refused_files().values())])
     return room.read(rng.choice(VALID[rng.choice(sorted(VALID))]))
@@ -305,6 +307,23 @@ def shown_place(data, number, place):
     return [*filter(None, [line]), *known(number, line[line.find("[") + 1 : -1])]
 
 
+def dates_in(lines, record):
+    """The dates of a leg record of a data set."""
+    first, last, digits = (record[at:end].decode("latin-1") for at, end in ((14, 21), (21, 28), (28, 35)))
+    last = lines[1][21:28].decode("latin-1") if last == OPEN_END else last
+    return dates_of(day_of(first), day_of(last), digits)
+
+
+def overlap(data, place, other):
+    """The lines on the record with the number `other`, with which that of the place has a date in common; nothing if it has none."""
+    lines = data.split(b"\n")
+    found, record = lines[other - 1], lines[int(place.split()[1]) - 1]
+    common = sorted({*dates_in(lines, found)} & {*dates_in(lines, record)})
+    if (found[1:9], found[11:13]) != (record[1:9], record[11:13]) or not common:
+        return []
+    return [f"other record: {brackets(found[:200])}", f"its number: {other}", f"common date: {date(common[0])}"]
+
+
 def message_line(data, number, place):
     """The line of a text that a desk refuses."""
     lines = [line for line in map(mail.shown, data.split(b"\n")) if line]
@@ -357,9 +376,9 @@ class Explained:
 
 
 def is_plain(data, place):
-    """Whether the record of a place is on the line of its number."""
-    *before, line = data.split(b"\n")[: int(place.split()[1])]
-    return all(len(line) == 200 for line in before) and (len(line) >= 200 or data.endswith(line))
+    """Whether the record of a place is on the line of its number, or after the last line."""
+    lines, at = data.split(b"\n"), int(place.split()[1]) - 1
+    return all(len(line) == 200 for line in lines[:at]) and (at + 1 >= len(lines) or len(lines[at]) >= 200)
 
 
 def outs(room):
@@ -394,8 +413,12 @@ def compared(rng, room, case):
     first, *lines = asked.err.split("\n")[:-1]
     told = [line for line in lines if not line.startswith(OWN_LINES)]
     data = refusal.data(explained.of_file) if explained.of_file else b""
-    if refusal.place.startswith("record") and explained.of_file and not is_plain(data, refusal.place):
+    of_record = refusal.place.startswith("record") and explained.of_file
+    if of_record and not is_plain(data, refusal.place):
         wanted, told = ([line for line in these if not line.startswith("record: ")] for these in (wanted, told))
+    elif of_record and refusal.number == 34:
+        shown = [line for line in lines if line.startswith(OWN_LINES)]
+        yield f"{words}: overlap", shown, overlap(data, refusal.place, int(shown[1].split()[-1]))
     yield f"{words}: lines", [first, *told], [refusal.line, *wanted]
     yield f"{words}: the rest", asked._replace(err=""), plain._replace(err="")
     if explained.of_file:

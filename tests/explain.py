@@ -15,7 +15,7 @@ import subprocess
 import sys
 
 from cases import vectors
-from odd_files import carriers_files, foreign_files, known_texts, mailboxes, over, refused_files
+from odd_files import carriers_files, foreign_files, known_texts, mailboxes, message, over, refused_files
 from reasons import reasons
 from refusals import PAGE, TOP, refusals, rows_from, there
 
@@ -77,11 +77,14 @@ def mailbox_answers(program):
 
 
 def known_answers(program):
-    """The line before the last of what is printed of each such text or file of several carriers, and what docs/FORMATS.md says of it."""
+    """The line before the last of what is printed of each such text or file of several carriers, and what docs/FORMATS.md says of it; and
+    of a text with a leg in place of a period, which begins with what looks like a flight."""
     known = {cell: words for cell, words in rows_from("docs/FORMATS.md", "| Refused | `known` |")}
     several = [("38, or 11 at a record that begins with `2`", data) for data in carriers_files()]
     for cell, data in [*known_texts(), *several]:
         yield f"a file refused {cell}", f"known: {known[cell.replace('`', '')]}", printed(program, "-", data).splitlines()[-2]
+    leg = message(b"TIM", b"LX544", b"LHR1245 FDH1520", start=4)
+    yield "a leg in place of a period", "allowed: a period such as 17MAY27 31MAY27 1", printed(program, "-", leg).splitlines()[-2]
 
 
 def named_answers(program, rows):

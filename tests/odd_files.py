@@ -98,7 +98,7 @@ def mailboxes():
 
 
 def known_texts():
-    """Texts with what other systems take, by the first cell of a row of docs/FORMATS.md."""
+    """Texts with what other systems take, by the first cell of a row of docs/FORMATS.md, with either end of lines."""
     several = "24 at a flight or at a frequency rate; 25, 26 or 27 at a period"
     flight, period = b"LX544", b"01JUL25 07JUL25 2"
     actions = {
@@ -110,12 +110,11 @@ def known_texts():
         "22 at `RSD`, `ACK` or `NAC`": (b"RSD", b"ACK", b"NAC"),
         "22 at an action that is taken, and more": (b"CNL CREW", b"EQT/ADM", b"NEW XASM"),
     }
-    for cell, lines in actions.items():
-        for line in lines:
-            yield cell, message(line, start=4)
+    found = [(cell, message(line, start=4)) for cell, lines in actions.items() for line in lines]
     for lines in ([b"CNL", flight, flight, period], [b"CNL", flight, period + b"/W2"], [b"EQT", flight, period, period],
                   [b"NEW", flight, period, b"J 320", period], [b"CNL", flight, period, period]):
-        yield several, message(*lines, start=4)
+        found.append((several, message(*lines, start=4)))
+    return [(cell, text.replace(b"\n", end)) for cell, text in found for end in (b"\n", b"\r\n")]
 
 
 def carriers_files():
