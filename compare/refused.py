@@ -223,6 +223,13 @@ class Refusal:
             return None
         return next(word for word in flights if self.is_other(word, own[0])), False
 
+    def refused_text(self):
+        """The text that is refused: that after those that are taken; None if a desk that is not read again may refuse any."""
+        texts = self.command.of("text")
+        if "-" in self.command.of("desk") and self.number >= 40 and len(texts) > 1:
+            return None
+        return texts[len(self.answer.out.splitlines())], True
+
     def wrong_word(self):
         """The word that is refused, with False; None if no word is."""
         command = self.command
@@ -243,7 +250,7 @@ class Refusal:
         if self.number in (60, 61) and self.command.name != "take":
             return files[-1][0], True
         if self.command.name == "take" and self.number != 62:
-            return self.command.of("text")[len(self.answer.out.splitlines())], True
+            return self.refused_text()
         if self.number == 40:
             return files[-1][0], True
         if self.number == 41:
