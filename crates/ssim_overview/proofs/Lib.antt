@@ -10,6 +10,8 @@ pub mod SaidDays
 pub mod SaidSpan
 pub mod SaidSteps
 pub mod SaidHalves
+pub mod HeldEnds
+pub mod Ranks
 pub mod SaidStations
 pub mod SaidFlights
 pub mod NoteDates

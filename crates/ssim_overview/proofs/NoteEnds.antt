@@ -1,10 +1,9 @@
 -- The rows and the ends of records at the ranks of their stations.
-use Rattle.std.proofs.Common.{◌≡◌, ◌≢◌, ◌∙◌, ℕ, zero, suc, ◌+◌, ◌++◌, ◌<◌, Bool, true, false, not}
+use Rattle.std.proofs.Common.{◌≡◌, ◌∙◌, ℕ, ◌+◌, ◌++◌, ◌<◌, Bool, true, false, not}
 use Rattle.std.proofs.Common.{◌&&◌, nat_eq, nat_le}
-use Rattle.std.proofs.Common.{if◌then◌else◌, filter, List, [], ◌∷◌, length, map, take, get_or, set}
-use Rattle.std.proofs.Common.{replicate}
+use Rattle.std.proofs.Common.{if◌then◌else◌, filter, List, [], ◌∷◌, length, take, get_or, set}
 use Rattle.std.proofs.Common.{Option, Some, slice_index, subst}
-use Rattle.std.proofs.Common.{get_or-set_same, get_or-set_other, refl, sym, ap, ap₂, arith}
+use Rattle.std.proofs.Common.{refl, sym, ap, ap₂, arith}
 use Rattle.std.proofs.Common.{append-nil, append_assoc}
 use Rattle.std.specs.Str.{bytes_eq}
 use Rattle.std.proofs.lemmas.Bool.Decides.{nat_tests}
@@ -26,64 +25,9 @@ use Rattle.ssim_overview.specs.internal.StationNotes.{records_ends}
 use Rattle.ssim_overview.specs.internal.StationNotes.{rows_about}
 use Rattle.ssim_overview.specs.StationNotes.{arrival_end, departure_end, leg_end}
 use Rattle.ssim_overview.specs.declared.leg_ends.LegEnd.{LegEnd}
+use Rattle.ssim_overview.proofs.Ranks.{one_at, together}
 use Rattle.ssim_overview.proofs.SaidColumns.{variation_read}
 use Rattle.ssim_overview.proofs.SaidSteps.{taken}
-
--- ---- lists of lists
-
--- one of the lists
-pub at_map : {L X : Type 0} (items : L → List X) (xs : List L) (k : ℕ) (d : L) → k < length xs
-    → get_or (map items xs) k [] ≡ items (get_or xs k d)
-at_map items [] k d h = absurd (omega arith)
-at_map items (x ∷ xs) zero d h = refl
-at_map items (x ∷ xs) (suc k) d h = at_map items xs k d (omega arith)
-
-map_set : {L X : Type 0} (f : L → X) (xs : List L) (k : ℕ) (y : L)
-    → map f (set xs k y) ≡ set (map f xs) k (f y)
-map_set f [] k y = refl
-map_set f (x ∷ xs) zero y = refl
-map_set {L} {X} f (x ∷ xs) (suc k) y = ap (λ (ys : List X). f x ∷ ys) (map_set f xs k y)
-
--- an element more in one of the lists
-pub pushed : {L X : Type 0} (items : L → List X) (old : List L) (n : ℕ) (own new : L) (x : X)
-    → n < length old → own ≡ get_or old n own → items new ≡ items own ++ x ∷ []
-    → map items (set old n new) ≡ set (map items old) n (get_or (map items old) n [] ++ x ∷ [])
-pushed {L} {X} items old n own new x within is added =
-    map_set items old n new
-    ∙ ap (set (map items old) n)
-    (added ∙ ap (λ (l : List X). l ++ x ∷ []) (ap items is ∙ sym (at_map items old n own within)))
-
--- no list has an element
-pub none_in : {X : Type 0} (n k : ℕ) → get_or (replicate {A = List X} n []) k [] ≡ []
-none_in zero k = refl
-none_in (suc n) zero = refl
-none_in (suc n) (suc k) = none_in n k
-
-apart : (k n : ℕ) → nat_eq n k ≡ false → k ≢ n
-apart k n e = grind (arith, nat_tests)
-
-together : (k n : ℕ) → nat_eq n k ≡ true → k ≡ n
-together k n e = grind (arith, nat_tests)
-
--- an element more at a rank
-one_at : {X : Type 0} (old : List (List X)) (n k : ℕ) (x : X) → n < length old
-    → get_or (set old n (get_or old n [] ++ x ∷ [])) k []
-    ≡ get_or old k [] ++ (if nat_eq n k then x ∷ [] else [])
-one_at {X} old n k x within = at (nat_eq n k) refl
-  where
-    at : (b : Bool) → nat_eq n k ≡ b
-        → get_or (set old n (get_or old n [] ++ x ∷ [])) k []
-        ≡ get_or old k [] ++ (if b then x ∷ [] else [])
-    at true e =
-        let same : k ≡ n = together k n e in
-        ap (λ (i : ℕ). get_or (set old n (get_or old n [] ++ x ∷ [])) i []) same
-        ∙ rw get_or-set_same refl
-        ∙ ap (λ (i : ℕ). get_or old i [] ++ x ∷ []) (sym same)
-    at false e =
-        let other : k ≢ n = apart k n e in
-        let is_old : get_or (set old n (get_or old n [] ++ x ∷ [])) k [] ≡ get_or old k [] =
-        rw get_or-set_other refl in
-        is_old ∙ sym (append-nil (get_or old k []))
 
 -- ---- rows
 

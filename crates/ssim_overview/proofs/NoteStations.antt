@@ -9,7 +9,6 @@ use Rattle.std.specs.List.{count_by, flat_map, list_any, range_with_len}
 use Rattle.std.specs.Option.{option_to_list}
 use Rattle.std.specs.Str.{bytes_eq}
 use Rattle.std.proofs.lemmas.Bool.Decides.{nat_tests}
-use Rattle.std.proofs.lemmas.List.Concat.{flat_map-append}
 use Rattle.ssim_values.specs.Period.{DayRange}
 use Rattle.ssim_values.specs.Variation.{Offset}
 use Rattle.ssim_periods.specs.Calendar.{day_count, holds}
@@ -34,7 +33,6 @@ use Rattle.ssim_overview.specs.declared.table_notes.NoteKind.TheVariants.{Missin
 use Rattle.ssim_overview.specs.declared.table_notes.StationNote.{StationNote}
 use Rattle.ssim_overview.proofs.FlownEnds.{any_none}
 use Rattle.ssim_overview.proofs.NoteDates.{counts_same, ends_same}
-use Rattle.ssim_overview.proofs.SaidDays.{range_split}
 use Rattle.ssim_overview.proofs.StationMarks.{limit_is}
 
 -- ---- notes
@@ -314,18 +312,6 @@ ends_held (Leg r ∷ later) n =
     (holds (period_of r) n) (ends_held later n)
 
 -- ---- all stations
-
--- the notes of one rank more
-pub rank_more : (f : ℕ → List StationNote) (rank : ℕ) (old new : List StationNote)
-    → old ≡ flat_map f (range_with_len 0 rank) → new ≡ old ++ f rank
-    → new ≡ flat_map f (range_with_len 0 (rank + 1))
-rank_more f rank old new before added =
-    let here : 0 + rank ≡ rank = omega arith in
-    added ∙ ap (λ (o : List StationNote). o ++ f rank) before
-    ∙ sym (ap (flat_map f) (range_split 0 rank 1
-    ∙ ap (λ (k : ℕ). range_with_len 0 rank ++ range_with_len k 1) here)
-    ∙ flat_map-append f (range_with_len 0 rank) (rank ∷ [])
-    ∙ ap (λ (l : List StationNote). flat_map f (range_with_len 0 rank) ++ l) (append-nil (f rank)))
 
 module _ (records : List Record) (rows : List Row) (table : List (List Row))
     (lists : List (List DatedEnd))

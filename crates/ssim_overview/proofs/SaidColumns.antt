@@ -1,8 +1,7 @@
 -- The UTC variation in columns of a leg, if they are not blank.
-use Rattle.std.proofs.Common.{◌≡◌, ◌∙◌, ℕ, Bool, true, false, ◌&&◌, ◌==◌, nat_eq, if◌then◌else◌, List, [], ◌∷◌}
-use Rattle.std.proofs.Common.{Option, None, Some, refl, sym, ap, ap₂, arith, ◌++◌, append_assoc, map, slice_index}
+use Rattle.std.proofs.Common.{◌≡◌, ◌∙◌, ℕ, Bool, true, false, ◌&&◌, ◌==◌, if◌then◌else◌, List, [], ◌∷◌}
+use Rattle.std.proofs.Common.{Option, None, Some, refl, sym, ap, ap₂, arith, ◌++◌, slice_index}
 use Rattle.std.proofs.lemmas.List.{map-append}
-use Rattle.std.proofs.Common.{Result, Ok, Err, OnOk}
 use Rattle.std.specs.List.{list_all}
 use Rattle.std.specs.Option.{option_map}
 use Rattle.std.proofs.lemmas.Bool.Decides.{nat_tests}
@@ -13,7 +12,7 @@ use Rattle.ssim_values.specs.Period.{DayRange}
 use Rattle.ssim_records.specs.Leg.{leg_columns}
 use Rattle.ssim_base.specs.Timetable.{LegValue}
 use Rattle.ssim_overview.specs.SaidRows.{end_says}
-use Rattle.ssim_overview.specs.internal.SaidRows.{Dated, dated, leg_says_on}
+use Rattle.ssim_overview.specs.internal.SaidRows.{dated, leg_says_on}
 use Rattle.ssim_overview.specs.declared.sayings.Saying.{Saying}
 use Rattle.ssim_columns.specs.Numbers.{is_blank}
 
@@ -53,25 +52,21 @@ variation_read text v h = by (list_all is_blank text) refl (variation_of text) r
     by false e (Some u) f t = f ∙ ap (within None) t
 
 -- what a leg says by the values of its columns
-pub ends_more : (period : DayRange) (leg : LegValue) (columns date_variations from to : List ℕ)
-    (left right : Option Offset) (old mid new : List Dated) → columns ≡ leg.columns
+pub ends_are : (period : DayRange) (leg : LegValue) (columns date_variations from to : List ℕ)
+    (left right : Option Offset) → columns ≡ leg.columns
     → date_variations ≡ leg_columns 193 194 columns
     → from ≡ leg_columns 37 39 columns → to ≡ leg_columns 55 57 columns
     → utc_variation_of (leg_columns 48 52 columns) ≡ Some left
     → utc_variation_of (leg_columns 66 70 columns) ≡ Some right
-    → mid ≡ old ++ dated period (end_says from left (slice_index date_variations 0))
-    → new ≡ mid ++ dated period (end_says to right (slice_index date_variations 1))
-    → new ≡ old ++ leg_says_on period leg
-ends_more period leg columns date_variations from to left right old mid new are ks a b l r first last =
-    last ∙ ap (λ (m : List Dated). m ++ dated period (end_says to right (slice_index date_variations 1))) first
-    ∙ append_assoc old (dated period (end_says from left (slice_index date_variations 0)))
-    (dated period (end_says to right (slice_index date_variations 1)))
-    ∙ ap (λ (d : List Dated). old ++ d)
-    (sym (map-append (λ saying. (period, saying)) (end_says from left (slice_index date_variations 0))
+    → dated period (end_says from left (slice_index date_variations 0))
+    ++ dated period (end_says to right (slice_index date_variations 1))
+    ≡ leg_says_on period leg
+ends_are period leg columns date_variations from to left right are ks a b l r =
+    sym (map-append (λ saying. (period, saying)) (end_says from left (slice_index date_variations 0))
     (end_says to right (slice_index date_variations 1)))
     ∙ ap (dated period) (ap₂ (λ (x y : List Saying). x ++ y)
     (λ i. end_says ((a ∙ ap (leg_columns 37 39) are) i) (value 48 52 left l i) (slice_index (both i) 0))
-    (λ i. end_says ((b ∙ ap (leg_columns 55 57) are) i) (value 66 70 right r i) (slice_index (both i) 1))))
+    (λ i. end_says ((b ∙ ap (leg_columns 55 57) are) i) (value 66 70 right r i) (slice_index (both i) 1)))
   where
     both : date_variations ≡ leg_columns 193 194 leg.columns
     both = ks ∙ ap (leg_columns 193 194) are
@@ -80,17 +75,3 @@ ends_more period leg columns date_variations from to left right old mid new are 
         → v ≡ variation_of (leg_columns m n leg.columns)
     value m n v is =
         sym (variation_read (leg_columns m n columns) v is) ∙ ap (λ (c : List ℕ). variation_of (leg_columns m n c)) are
-
--- handed on
-pub ends_handed : {T E : Type 0} (period : DayRange) (leg : LegValue) (columns date_variations from to : List ℕ)
-    (left right : Option Offset) (old mid new : List Dated) (r : Result T E) → columns ≡ leg.columns
-    → date_variations ≡ leg_columns 193 194 columns
-    → from ≡ leg_columns 37 39 columns → to ≡ leg_columns 55 57 columns
-    → utc_variation_of (leg_columns 48 52 columns) ≡ Some left
-    → utc_variation_of (leg_columns 66 70 columns) ≡ Some right
-    → mid ≡ old ++ dated period (end_says from left (slice_index date_variations 0))
-    → OnOk r (new ≡ mid ++ dated period (end_says to right (slice_index date_variations 1)))
-    → OnOk r (new ≡ old ++ leg_says_on period leg)
-ends_handed period leg columns date_variations from to left right old mid new (Ok x) are ks a b l r first last =
-    ends_more period leg columns date_variations from to left right old mid new are ks a b l r first last
-ends_handed period leg columns date_variations from to left right old mid new (Err e) are ks a b l r first last = tt

@@ -1,6 +1,6 @@
 -- Rows that grow date by date are the dates, cut.
 use Rattle.std.proofs.Common.{◌≡◌, ◌∙◌, ℕ, ◌++◌, Bool, true, false, ◌&&◌, not, nat_eq, if◌then◌else◌}
-use Rattle.std.proofs.Common.{fold, List, [], ◌∷◌, refl, sym, ap, arith, append-nil, append_assoc}
+use Rattle.std.proofs.Common.{List, [], ◌∷◌, refl, sym, ap, arith, append-nil, append_assoc}
 use Rattle.std.proofs.lemmas.Bool.Decides.{nat_tests}
 use Rattle.ssim_values.specs.Variation.{Offset}
 use Rattle.ssim_base.specs.Stations.{Row}

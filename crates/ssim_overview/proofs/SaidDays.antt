@@ -1,17 +1,15 @@
 -- What is said on days between which no period begins or is over: each week is as the first.
 use Rattle.std.proofs.Common.{◌≡◌, ◌∙◌, ◌⊎◌, inl, inr, ℕ, zero, suc, ◌+◌, ◌-◌, ◌%◌, ◌++◌, ◌≤◌, ◌<◌, Bool, true, false}
-use Rattle.std.proofs.Common.{◌&&◌, nat_le, if◌then◌else◌, fold, List, [], ◌∷◌, map, min, Option, None, refl, sym, ap}
+use Rattle.std.proofs.Common.{◌&&◌, nat_le, if◌then◌else◌, List, [], ◌∷◌, map, min, Option, None, refl, sym, ap}
 use Rattle.std.proofs.Common.{ap₂, arith, get_or, length, slice_index_or}
-use Rattle.std.specs.List.{flat_map, range_with_len}
+use Rattle.std.specs.List.{range_with_len}
 use Rattle.std.specs.Option.{option_to_list}
 use Rattle.std.proofs.lemmas.Bool.Decides.{nat_tests}
 use Rattle.std.proofs.lemmas.List.FromFn.{get_or-map-range_with_len}
 use Rattle.std.proofs.lemmas.List.{get_or_default}
 use Rattle.ssim_values.specs.Calendar.{slot}
-use Rattle.ssim_values.specs.Period.{DayRange}
 use Rattle.ssim_values.specs.Variation.{Offset}
 use Rattle.ssim_base.specs.Stations.{Row}
-use Rattle.ssim_periods.specs.Calendar.{holds}
 use Rattle.ssim_periods.specs.Pieces.{held_on}
 use Rattle.ssim_overview.specs.SaidRows.{said, with_variation}
 use Rattle.ssim_overview.specs.internal.SaidRows.{Dated, Unchanged, by_week, dates_said, extended, grown}

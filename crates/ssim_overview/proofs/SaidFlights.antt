@@ -1,25 +1,23 @@
 -- What the pieces of flights say on a date is what the legs of the flights say.
 use Rattle.std.proofs.Common.{◌≡◌, ◌∙◌, ℕ, ◌++◌, ◌<◌, Bool, true, false, if◌then◌else◌, filter}
-use Rattle.std.proofs.Common.{List, [], ◌∷◌, map, Option, refl, sym, ap, ap₂, arith, append-nil, append_assoc}
+use Rattle.std.proofs.Common.{List, [], ◌∷◌, map, refl, sym, ap, ap₂, arith, append-nil}
 use Rattle.std.specs.List.{flat_map, range_with_len}
-use Rattle.std.specs.Option.{option_to_list}
 use Rattle.std.proofs.lemmas.List.Concat.{flat_map-append}
 use Rattle.ssim_values.specs.Flight.{FlightNumber}
 use Rattle.ssim_values.specs.Period.{DayRange}
-use Rattle.ssim_values.specs.Variation.{Offset}
-use Rattle.ssim_periods.specs.Calendar.{day_count, holds}
+use Rattle.ssim_periods.specs.Calendar.{holds}
 use Rattle.ssim_periods.specs.Days.{each_day}
 use Rattle.ssim_periods.specs.Pieces.{alone, held_on}
 use Rattle.ssim_periods.proofs.DayLemmas.{day_count-is}
 use Rattle.ssim_base.specs.Export.{Piece, all_flights, pieces, same_itinerary}
 use Rattle.ssim_base.specs.Stations.{Row}
-use Rattle.ssim_base.specs.Timetable.{LegValue, Legs, on_day}
+use Rattle.ssim_base.specs.Timetable.{Legs, on_day}
 use Rattle.ssim_schedule.specs.FlightPieces.{Divided, divided_flights}
 use Rattle.ssim_schedule.specs.FlightPieces as shown
-use Rattle.ssim_overview.specs.Totals.{LegsOn, calendar, all_stations, station_limit, station_at}
+use Rattle.ssim_overview.specs.Totals.{LegsOn, station_at}
 use Rattle.ssim_overview.specs.SaidRows.{cut, is_about, leg_says, rows_of, said, said_about, said_rows}
 use Rattle.ssim_overview.specs.SaidRows.{variation_on, with_variation}
-use Rattle.ssim_overview.specs.internal.SaidRows.{Dated, about, dated, flights_say, grown, legs_say}
+use Rattle.ssim_overview.specs.internal.SaidRows.{Dated, about, dated, flights_say, legs_say}
 use Rattle.ssim_overview.specs.internal.SaidRows.{pieces_say, rows_by}
 use Rattle.ssim_overview.specs.declared.sayings.Saying.{Saying}
 use Rattle.ssim_overview.proofs.FlownDates.{held_is, on_its_day}

@@ -1,14 +1,13 @@
 -- The dates of two halves of a range: what is said on the days of a half makes its dates.
 use Rattle.std.proofs.Common.{◌≡◌, ◌∙◌, ◌⊎◌, inl, inr, ℕ, zero, suc, ◌+◌, ◌-◌, ◌/◌, ◌++◌, ◌≤◌, ◌<◌, Bool, true, false}
-use Rattle.std.proofs.Common.{◌&&◌, ◌||◌, nat_le, nat_lt, if◌then◌else◌, filter, List, [], ◌∷◌, map, Option, refl}
-use Rattle.std.proofs.Common.{sym, ap, ap₂, arith, subst, slice_index_or, Result, Ok, Err, OnOk}
-use Rattle.std.specs.List.{flat_map, list_all, range_with_len}
+use Rattle.std.proofs.Common.{◌&&◌, ◌||◌, nat_le, if◌then◌else◌, filter, List, [], ◌∷◌, map, refl}
+use Rattle.std.proofs.Common.{sym, ap, arith, slice_index_or, Result, Ok, Err, OnOk}
+use Rattle.std.specs.List.{list_all, range_with_len}
 use Rattle.std.specs.Option.{option_to_list}
 use Rattle.std.proofs.lemmas.Bool.Decides.{nat_tests}
 use Rattle.std.proofs.lemmas.List.Concat.{flat_map-append}
 use Rattle.ssim_values.specs.Calendar.{slot}
 use Rattle.ssim_values.specs.Period.{DayRange}
-use Rattle.ssim_values.specs.Variation.{Offset}
 use Rattle.ssim_base.specs.Stations.{Row}
 use Rattle.ssim_periods.specs.Calendar.{holds}
 use Rattle.ssim_periods.specs.Pieces.{held_on}

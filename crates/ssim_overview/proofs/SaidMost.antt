@@ -1,7 +1,7 @@
 -- The variation that no other one beats is one alone.
 use Rattle.std.proofs.Common.{◌≡◌, ◌∙◌, ℕ, ◌++◌, Bool, true, false, ◌&&◌, ◌||◌, not, nat_eq, nat_lt, if◌then◌else◌}
-use Rattle.std.proofs.Common.{List, [], ◌∷◌, map, Option, Some, None, refl, sym, ap, ap₂, arith, cond, subst}
-use Rattle.std.specs.List.{count_by, find, list_any}
+use Rattle.std.proofs.Common.{List, [], ◌∷◌, map, Option, Some, None, refl, sym, ap, ap₂, arith, cond}
+use Rattle.std.specs.List.{find, list_any}
 use Rattle.std.proofs.lemmas.Bool.Decides.{nat_tests}
 use Rattle.ssim_values.specs.Variation.{Offset}
 use Rattle.ssim_overview.specs.SaidRows.{beats, comes_before, is_same, is_unbeaten, most, votes}
@@ -68,7 +68,7 @@ ahead_same m n p q a b = grind (arith, nat_tests)
 ahead_itself : (m : ℕ) (p : Bool) → p ≡ false → ahead m m p ≡ false
 ahead_itself m p h = grind (arith, nat_tests)
 
-never_itself : (sayings : List Saying) (v : Offset) → beats sayings v v ≡ false
+pub never_itself : (sayings : List Saying) (v : Offset) → beats sayings v v ≡ false
 never_itself sayings v = ahead_itself (votes sayings v) (comes_before v v) (not_itself v)
 
 beats_too : (sayings : List Saying) (u v w : Offset) → beats sayings u v ≡ true

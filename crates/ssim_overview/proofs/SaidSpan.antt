@@ -7,11 +7,10 @@ use Rattle.std.proofs.lemmas.Bool.Decides.{nat_tests}
 use Rattle.ssim_values.specs.Calendar.{slot}
 use Rattle.ssim_values.specs.Period.{DayRange}
 use Rattle.ssim_values.specs.Variation.{Offset}
-use Rattle.ssim_base.specs.Stations.{Row}
 use Rattle.ssim_periods.specs.Calendar.{holds}
 use Rattle.ssim_periods.specs.Pieces.{held_on}
 use Rattle.ssim_overview.specs.SaidRows.{said}
-use Rattle.ssim_overview.specs.internal.SaidRows.{Dated, dates_said, grown}
+use Rattle.ssim_overview.specs.internal.SaidRows.{Dated, dates_said}
 use Rattle.ssim_overview.specs.declared.sayings.Saying.{Saying}
 use Rattle.ssim_overview.proofs.SaidHalves.{dates_halves}
 use Rattle.ssim_overview.proofs.SaidSteps.{held_more}

@@ -1,11 +1,11 @@
 -- One element more: what loops over lists have after it.
 use Rattle.std.proofs.Common.{◌≡◌, ◌∙◌, ℕ, ◌+◌, ◌-◌, ◌++◌, ◌≤◌, ◌<◌, Bool, true, false, if◌then◌else◌, List, [], ◌∷◌, map}
-use Rattle.std.proofs.Common.{filter, length, get_or, take, Option, Some, None, sym, ap, refl, arith, append-nil}
-use Rattle.std.proofs.Common.{◌==◌, suc, subst, Result, Ok, Err, IsErr, OnOk}
+use Rattle.std.proofs.Common.{filter, length, get_or, take, Option, sym, ap, refl, arith, append-nil}
+use Rattle.std.proofs.Common.{◌==◌, suc, Result, Ok, Err, IsErr, OnOk}
 use Rattle.std.proofs.lemmas.Bool.Decides.{nat_tests}
-use Rattle.std.specs.List.{flat_map, range_with_len}
+use Rattle.std.specs.List.{range_with_len}
 use Rattle.std.specs.Option.{option_to_list}
-use Rattle.std.proofs.lemmas.List.{flat_map_more, map-append, take_more}
+use Rattle.std.proofs.lemmas.List.{map-append, take_more}
 use Rattle.std.proofs.lemmas.List.Concat.{flat_map-append}
 use Rattle.std.proofs.lemmas.List.Elements.{filter-append}
 use Rattle.ssim_values.specs.Variation.{Offset}
@@ -13,7 +13,7 @@ use Rattle.ssim_base.specs.Stations.{Row}
 use Rattle.ssim_periods.specs.Calendar.{holds}
 use Rattle.ssim_periods.specs.Pieces.{held_on}
 use Rattle.ssim_overview.specs.SaidRows.{with_variation}
-use Rattle.ssim_overview.specs.internal.SaidRows.{Dated, extended, grown}
+use Rattle.ssim_overview.specs.internal.SaidRows.{Dated, grown}
 use Rattle.ssim_overview.specs.declared.sayings.Saying.{Saying}
 use Rattle.ssim_overview.proofs.SaidDays.{grown_on, range_split}
 
@@ -21,13 +21,6 @@ use Rattle.ssim_overview.proofs.SaidDays.{grown_on, range_split}
 pub taken : {A : Type 0} (xs : List A) (i : ℕ) (x : A) → i < length xs → x ≡ get_or xs i x
     → take (i + 1) xs ≡ take i xs ++ x ∷ []
 taken xs i x lt is = take_more xs i x lt ∙ ap (λ y. take i xs ++ y ∷ []) (sym is)
-
-pub one_more : {A B : Type 0} (f : A → List B) (xs : List A) (i : ℕ) (x : A) (old mid new : List B)
-    → i < length xs → x ≡ get_or xs i x → mid ≡ old ++ flat_map f (take i xs) → new ≡ mid ++ f x
-    → new ≡ old ++ flat_map f (take (i + 1) xs)
-one_more f xs i x old mid new lt is before added =
-    added ∙ ap (λ m. m ++ f x) before ∙ flat_map_more f old (take i xs) x
-    ∙ ap (λ ys. old ++ flat_map f ys) (sym (taken xs i x lt is))
 
 pub held_append : (xs ys : List Dated) (n : ℕ) → held_on (xs ++ ys) n ≡ held_on xs n ++ held_on ys n
 held_append [] ys n = refl
@@ -123,6 +116,3 @@ no_items xs (y ∷ ys) is h = absurd (more (length ys) h)
   where
     more : (n : ℕ) → (suc n == 0) ≡ true → ⊥
     more n t = let bad : suc n ≡ 0 = grind (arith, nat_tests) in omega arith
-
-pub some_items : (xs ys : List Dated) → ys ≡ xs → (length ys == 0) ≡ false → 0 < length xs
-some_items xs ys is h = subst (λ (zs : List Dated). 0 < length zs) is (grind (arith, nat_tests))

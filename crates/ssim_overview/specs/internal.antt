@@ -3,3 +3,4 @@
 pub mod Totals
 pub mod SaidRows
 pub mod StationNotes
+pub mod HeldEnds

@@ -11,6 +11,7 @@
 //! date, neither more nor less.
 #![tactic(auto)]
 
+mod held_ends;
 mod leg_ends;
 mod said_table;
 mod said_variation;

@@ -87,11 +87,27 @@ fn mark(marks: &mut [bool], station: Station)
     marks[number_of(station)] = true;
 }
 
-// The rank of a station among all, in order of letters.
+/// The rank of a station among all, in order of letters.
 pub(crate) fn number_of(station: Station) -> usize
     ensures bound { result < 17576 }
     ensures only { (k : ℕ) → k < 17576 → nat_eq result k ≡ bytes_eq station (station_at k) }
 {
     let [a, b, c] = station.write();
     (a - b'A') as usize * 676 + (b - b'A') as usize * 26 + (c - b'A') as usize
+}
+
+/// The station with a rank.
+pub(crate) fn station_at(rank: usize) -> Station
+    requires { rank < 17576 }
+    ensures { result ≡ station_at rank }
+{
+    let letters = [
+        b'A' + (rank / 676) as u8,
+        b'A' + (rank / 26 % 26) as u8,
+        b'A' + (rank % 26) as u8,
+    ];
+    match Station::parse(&letters) {
+        Ok(station) => station,
+        Err(_) => unreachable!(),
+    }
 }

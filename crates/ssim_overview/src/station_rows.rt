@@ -1,15 +1,17 @@
 //! The rows of one station: its dates, cut where its variation changes or nothing is said for long.
 
 ghost use Rattle.std.specs.Prelude.{◌≡◌, ◌≤◌, ◌<◌, ◌-◌, ◌⊎◌, ℕ, IfOk, OnOk, [], filter, length, min};
-ghost use Rattle.std.specs.Prelude.{map};
+ghost use Rattle.std.specs.Prelude.{◌+◌, map, nat_lt, if◌then◌else◌, None, Some};
 ghost use Rattle.std.specs.List.{list_all, range_with_len};
 ghost use Rattle.std.specs.Option.{option_to_list};
 ghost use Rattle.ssim_periods.specs.Calendar.{holds};
 ghost use Rattle.ssim_periods.specs.Pieces.{held_on};
-ghost use Rattle.ssim_overview.specs.SaidRows.{said, with_variation};
+ghost use Rattle.ssim_overview.specs.SaidRows.{is_same, said, with_variation};
+ghost use Rattle.ssim_overview.specs.internal.HeldEnds.{before_ends};
 ghost use Rattle.ssim_overview.specs.internal.SaidRows.{Unchanged, by_week, dates_said, extended};
 ghost use Rattle.ssim_overview.specs.internal.SaidRows.{goes_on, grown, is_steady, meets};
 
+use crate::held_ends::held_ends;
 use crate::said_variation::{is_same, said};
 use crate::sayings::Saying;
 use ssim_values::{Day, Memory, Period, Station, Variation};
@@ -115,8 +117,8 @@ fn span(sayings: &[(Period, Saying)]) -> (u32, u32)
     (from, end)
 }
 
-// Adds the dates from a day to the one before an end: half by half, until no period begins or is over
-// in between.
+// Adds the dates from a day to the one before an end: half by half, until one variation is said, or
+// no period begins or is over in between.
 fn push_days(
     alloc: Global,
     rows: &mut Vec<SaidRow>,
@@ -133,6 +135,11 @@ fn push_days(
     if sayings.is_empty() {
         return Ok(());
     }
+    let variation = sayings[0].1.variation;
+    if is_only(sayings, variation) {
+        let ends = held_ends(alloc, sayings, from, end)?;
+        return push_held(rows, station, variation, &ends, from);
+    }
     let middle = from + (end - from) / 2;
     if middle == from || is_unchanged(sayings, from, end) {
         return push_range(alloc, rows, station, sayings, from, end);
@@ -141,6 +148,45 @@ fn push_days(
     push_days(alloc, rows, station, &before, from, middle)?;
     let after = between(alloc, sayings, middle, end)?;
     push_days(alloc, rows, station, &after, middle, end)
+}
+
+// Whether all say this variation.
+fn is_only(sayings: &[(Period, Saying)], variation: Variation) -> bool
+    ensures { result ≡ list_all (λ saying. is_same saying.1.variation variation) sayings.now }
+{
+    for saying in sayings {
+        if !is_same(saying.1.variation, variation) {
+            return false;
+        }
+    }
+    true
+}
+
+// Adds the days of a range that are before the end at their place.
+fn push_held(
+    rows: &mut Vec<SaidRow>,
+    station: Station,
+    variation: Variation,
+    ends: &[u32],
+    from: u32,
+) -> Result<(), Memory>
+    requires { from + length ends.now ≤ 36525 }
+    ensures { OnOk result (rows.new.items ≡ grown station rows.old.items
+        (with_variation (before_ends ends.now from variation)
+        (range_with_len from (length ends.now)))) }
+{
+    for day in from..from + ends.len() as u32 {
+        let said = said_before(day, ends[(day - from) as usize], variation);
+        push_said(rows, station, day, said)?;
+    }
+    Ok(())
+}
+
+// The variation on a day that is before an end, and none on another day.
+fn said_before(day: u32, end: u32, variation: Variation) -> Option<Variation>
+    ensures { result ≡ (if nat_lt day end then Some variation else None) }
+{
+    if day < end { Some(variation) } else { None }
 }
 
 // Whether no period begins or is over after a day and before an end.

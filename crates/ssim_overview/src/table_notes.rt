@@ -8,7 +8,7 @@ ghost use Rattle.ssim_overview.specs.internal.StationNotes.{AddsDates, extended,
 ghost use Rattle.ssim_overview.specs.internal.StationNotes.{is_marked_by};
 
 use crate::leg_ends::{LegEnd, ends_by_station, rows_by_station, says_other};
-use crate::station_marks::count_marks;
+use crate::station_marks::{count_marks, station_at};
 use crate::station_rows::holds;
 use ssim_base::{StationRow, variation_at};
 use ssim_records::Record;
@@ -84,22 +84,6 @@ fn push_station(
     push_note(notes, station, NoteKind::Missing, &missing)?;
     let other = marks(alloc, station, NoteKind::Other, rows, ends)?;
     push_note(notes, station, NoteKind::Other, &other)
-}
-
-// The station with a rank.
-fn station_at(rank: usize) -> Station
-    requires { rank < 17576 }
-    ensures { result ≡ station_at rank }
-{
-    let letters = [
-        b'A' + (rank / 676) as u8,
-        b'A' + (rank / 26 % 26) as u8,
-        b'A' + (rank % 26) as u8,
-    ];
-    match Station::parse(&letters) {
-        Ok(station) => station,
-        Err(_) => unreachable!(),
-    }
 }
 
 // A mark for each date of the calendar: whether one of the ends gives a note of a kind on it.

@@ -1,7 +1,8 @@
 -- What is said on the dates of periods, and rows that grow date by date.
-use Rattle.std.specs.Prelude.{◌≡◌, ◌⊎◌, ℕ, ◌+◌, ◌-◌, ◌%◌, ◌++◌, ◌≤◌, Bool, true, not, ◌&&◌, ◌||◌, nat_le, nat_lt, fold, filter}
+use Rattle.std.specs.Prelude.{◌≡◌, ◌⊎◌, ℕ, ◌+◌, ◌-◌, ◌%◌, ◌++◌, ◌≤◌, ◌<◌, Bool, not, ◌&&◌, ◌||◌, nat_le}
+use Rattle.std.specs.Prelude.{nat_lt, fold, filter, length}
 use Rattle.std.specs.Prelude.{if◌then◌else◌, List, [], ◌∷◌, map, Option, Some, None, slice_index_or}
-use Rattle.std.specs.List.{AllByRecursion, flat_map, list_any, range_with_len}
+use Rattle.std.specs.List.{AllByRecursion, flat_map, range_with_len}
 use Rattle.ssim_values.specs.Period.{DayRange}
 use Rattle.ssim_values.specs.Variation.{Offset}
 use Rattle.ssim_base.specs.Export.{Piece}
@@ -44,14 +45,20 @@ better sayings v (Some w) = if not (is_same v w) && beats sayings v w then Some 
 
 -- ---- stations
 
--- what is said of the stations from one rank to another
-abbrev pub is_ranked : ℕ → ℕ → Dated → Bool
-is_ranked low high saying =
-    list_any (λ k. is_about (station_at k) saying.1) (range_with_len low (high - low))
-
 -- what is said of a station
 abbrev pub about : List ℕ → List Dated → List Dated
 about station sayings = filter (λ saying. is_about station saying.1) sayings
+
+-- the lists have what is said of each station at its rank
+pub record AreByRank (sayings : List Dated) (lists : List (List Dated)) : Type 0 where
+  pub len : length lists ≡ 17576
+  pub each : (k : ℕ) → k < 17576 → slice_index_or lists k [] ≡ about (station_at k) sayings
+
+-- the lists have some more that is said
+pub record AddsSayings (sayings : List Dated) (old new : List (List Dated)) : Type 0 where
+  pub len : length new ≡ length old
+  pub each : (k : ℕ) → k < 17576
+      → slice_index_or new k [] ≡ slice_index_or old k [] ++ about (station_at k) sayings
 
 -- ---- rows
 
@@ -78,6 +85,11 @@ dates_said sayings from count =
 -- the rows of a station by what is said
 abbrev pub rows_by : List Dated → List ℕ → List Row
 rows_by sayings station = grown station [] (dates_said (about station sayings) 0 36525)
+
+-- the rows of the station of a rank by what is said at the rank
+abbrev pub rank_rows : List (List Dated) → ℕ → List Row
+rank_rows lists k =
+    grown (station_at k) [] (dates_said (slice_index_or lists k []) 0 36525)
 
 -- what is said on a day by the week from a first day on
 abbrev pub by_week : List (Option Offset) → ℕ → ℕ → Option Offset

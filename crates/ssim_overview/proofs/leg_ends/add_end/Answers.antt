@@ -8,7 +8,8 @@ use Rattle.ssim_base.specs.Stations.{Row}
 use Rattle.ssim_overview.specs.StationNotes.{leg_end}
 use Rattle.ssim_overview.specs.internal.StationNotes.{DatedEnd, is_quiet}
 use Rattle.ssim_overview.specs.declared.leg_ends.LegEnd.{LegEnd}
-use Rattle.ssim_overview.proofs.NoteEnds.{at_map, loud_end, pushed, quiet_end}
+use Rattle.ssim_overview.proofs.NoteEnds.{loud_end, quiet_end}
+use Rattle.ssim_overview.proofs.Ranks.{at_map, pushed}
 use Rattle.ssim_overview.proofs.leg_ends.add_end.Goals as goal
 use Rattle.ssim_overview.proofs.leg_ends.add_end.Goals.{After-is_quiet}
 

@@ -3,7 +3,8 @@ use Rattle.std.proofs.Common.{◌<◌, ◌∙◌, List, ℕ, map, slice_set, len
 use Rattle.std.specs.Str.{bytes_eq}
 use Rattle.std.proofs.lemmas.List.{length-map}
 use Rattle.ssim_overview.specs.Totals.{station_at}
-use Rattle.ssim_overview.proofs.NoteEnds.{pushed, row_more}
+use Rattle.ssim_overview.proofs.NoteEnds.{row_more}
+use Rattle.ssim_overview.proofs.Ranks.{pushed}
 use Rattle.ssim_overview.proofs.leg_ends.rows_by_station.Goals as goal
 
 pub loop-row-preserved : goal.loop-row-preserved

@@ -1,5 +1,5 @@
 -- One saying more, if its period holds the day.
-use Rattle.std.proofs.Common.{◌∙◌, List, ap, sym, true, false}
+use Rattle.std.proofs.Common.{◌∙◌, ap, sym, true, false}
 use Rattle.ssim_overview.proofs.SaidSteps.{held_step}
 use Rattle.ssim_overview.proofs.station_rows.held_on.Goals as goal
 use Rattle.ssim_overview.proofs.station_rows.held_on.Goals.{then-holds+in_ok-push, else-holds}

@@ -7,8 +7,8 @@ use Rattle.ssim_overview.specs.Totals.{station_at}
 use Rattle.ssim_overview.specs.internal.StationNotes.{AreEnds, DatedEnd, is_marked, rank_notes}
 use Rattle.ssim_overview.specs.internal.StationNotes.{records_ends}
 use Rattle.ssim_overview.specs.declared.table_notes.StationNote.{StationNote}
-use Rattle.ssim_overview.proofs.NoteEnds.{at_map}
-use Rattle.ssim_overview.proofs.NoteStations.{notes_are, rank_more}
+use Rattle.ssim_overview.proofs.NoteStations.{notes_are}
+use Rattle.ssim_overview.proofs.Ranks.{at_map, rank_more}
 use Rattle.ssim_overview.proofs.table_notes.station_notes.Goals as goal
 
 pub loop-rank-preserved : goal.loop-rank-preserved
