@@ -1,9 +1,9 @@
 """`sql` beside a plain list of flight dates: the whole script, byte for byte, and what SQLite reads of it.
 
 Each case is a data set, or one of its desks, whose carried columns and free texts are full of what SQL and its shells may take for
-something else. The legs are read from what `tidy` and `export` write, date by date (flight_dates.py), the messages from what `texts` and
-`findings` print. The script that follows from these has to be printed. Each script is loaded twice into SQLite, which has to give back
-each carried byte as the character of its number.
+something else. The legs are read from what `tidy` and `export` write, date by date (flight_dates.py), those that a desk changes from both, the
+messages from what `texts` and `findings` print. The script that follows from these has to be printed. Each script is loaded twice into
+SQLite, which has to give back each carried byte as the character of its number.
 """
 import datetime
 import os
@@ -13,12 +13,12 @@ import sqlite3
 import messages
 import small
 from chapter7 import DAY, OPEN_END, date, day_of, with_column
-from flight_dates import FINDING, WEEKDAYS, Timetable, clock, divided, movement, on_or_after, period_fields
+from flight_dates import FINDING, WEEKDAYS, Timetable, changed_dates, clock, divided, movement, on_or_after, period_fields
 from room import Answer
 
 KINDS = ["data set", "desk", "desk", "hostile", "hostile", "hostile"]
 SCHEMA = os.path.join(os.path.dirname(os.path.dirname(os.path.abspath(__file__))), "crates", "ssim_sql", "schema")
-TABLES = ["timetable", "leg", "segment", "station_row", "message", "sub_message"]
+TABLES = ["timetable", "leg", "segment", "station_row", "message", "sub_message", "change"]
 ROWS = 500
 ZERO = datetime.date(2000, 1, 1)
 WORDS = [b"'", b"''", b"\\'", b'"', b"--", b"/*", b"$$", b";", b":a", b"\\q", b"%s", b"\xe9\xff\x80", b"\xc3(", b"?1", b"{}", b"a'b''c", b" '",
@@ -98,10 +98,19 @@ def is_doubtful(table, leg):
     return any(movement(table, leg, ZERO, arrives)[3] for arrives in (False, True))
 
 
-def leg_row(table, name, period, leg):
-    return [*period_fields(name, period), int(leg.sequence), *end_values(table, leg, False), *end_values(table, leg, True),
+def leg_row(table, name, period, leg, *side):
+    """The row of a leg on a period of a flight; of one that differs with the side that has it."""
+    return [*period_fields(name, period), *side, int(leg.sequence), *end_values(table, leg, False), *end_values(table, leg, True),
             *(leg.at(*field).strip(" ") for field in ((14, 14), (73, 75), (76, 95), (173, 192))),
             leg.at(96, 127).rstrip(" "), leg.at(129, 172).rstrip(" "), int(is_doubtful(table, leg))]
+
+
+def change_rows(old, new):
+    """The legs of each period on which a flight differs: those of the old side, and then those of the new one."""
+    for flight, _, _, values in changed_dates(old, new):
+        for period, day in divided(values):
+            for side, legs in zip(("old", "new"), values[day]):
+                yield from (leg_row(new, new.designator(flight), period, leg, side) for leg in legs)
 
 
 def segment_row(name, period, leg, place, tail):
@@ -171,8 +180,8 @@ def day_statement(first, last):
     return f"INSERT INTO day (number, date, weekday) VALUES\n{rows}\nON CONFLICT DO NOTHING;\n"
 
 
-def script(room, season, exported):
-    """The script of FILE, whose timetable is exported so."""
+def script(room, season, exported, base):
+    """The script of FILE, whose timetable is exported so, and that of its data set."""
     table = Timetable(exported)
     carrier = exported[201:401].decode("latin-1") if exported[201:202] == b"2" else next(
         line for line in exported.split(b"\n") if line[:1] == b"2").decode("latin-1")
@@ -194,6 +203,7 @@ def script(room, season, exported):
         rows["message"], rows["sub_message"], periods = message_rows(room, season)
         dates += periods
         held = len(rows["message"])
+        rows["change"] = list(change_rows(Timetable(base), table))
     rows["timetable"] = [[table.airline, code, table.mode, season.first, season.last, day_of(carrier[28:35]), held]]
     parts = ["BEGIN;\n", file_of("tables.sql"), *(f"DELETE FROM {it} WHERE timetable = {value(name)};\n" for it in TABLES),
              day_statement(min(first for first, _ in dates), max(last for _, last in dates)),
@@ -212,14 +222,15 @@ def loaded(data):
 
 
 def compared(rng, room, season):
-    exported = room.exported("FILE")
-    if exported is None:
+    exported, base = room.exported("FILE"), room.exported("base")
+    if exported is None or base is None:
         room.counts["not exported"] += 1
         return
-    name, rows, wanted = script(room, season, exported)
+    name, rows, wanted = script(room, season, exported, base)
     answer = room("sql", "FILE")
     yield "sql", answer, Answer(0, wanted, "")
     room.counts["rows"] += sum(map(len, rows.values()))
+    room.counts["changes"] += len(rows["change"])
     if answer.status == 0:
         found = loaded(answer.out)
         for table in TABLES:

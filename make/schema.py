@@ -8,7 +8,7 @@ import os
 import re
 
 CRATE = os.path.join(os.path.dirname(os.path.dirname(os.path.abspath(__file__))), "crates", "ssim_sql")
-TABLES = ["timetable", "leg", "segment", "station_row", "message", "sub_message"]
+TABLES = ["timetable", "leg", "segment", "station_row", "message", "sub_message", "change"]
 WIDTH = 96
 
 

@@ -3,11 +3,13 @@
 
 The databases are SQLite, as Python has it, and PostgreSQL, if its programs are here: a server of its own, in a temporary folder. Each script
 is loaded twice. `leg` has to have the rows of `list --csv`, `flown` those of `list --csv --dates`, `departure` and `arrival` those of
-`board`, `message` what `texts` prints, `sub_message` what `findings --csv` and `texts --csv` print. The desks are those of the samples, of
+`board`, `message` what `texts` prints, `sub_message` what `findings --csv` and `texts --csv` print, `change` and `changed` what `diff --csv`
+of the data set and the desk prints. The desks are those of the samples, of
 made data sets, and one whose carried columns and free text are made of what SQL and its shells may take for something else. The last line
 is 'N passed, M failed'.
 """
 import csv
+import datetime
 import glob
 import io
 import os
@@ -23,12 +25,14 @@ sys.path.insert(0, os.path.join(TOP, "make"))
 
 import messages
 import small
-from chapter7 import with_column
+from chapter7 import dates_of, with_column
 
 SAMPLES = os.path.join(TOP, "samples")
-TABLES = ["timetable", "leg", "segment", "station_row", "message", "sub_message"]
+TABLES = ["timetable", "leg", "segment", "station_row", "message", "sub_message", "change"]
 WORDS = [b"'", b"''", b"\\'", b'"', b"--", b"/*", b"$$", b";", b":a", b"\\q", b"%s", b"\xe9\xff\x80", b"\xc3(", b"?1", b"{}"]
 FREE = ["//", "SI IT'S", ".QUIT", "\\q", "/", "go", ";", "COMMIT;", "--", "\\! false", "'", ":x"]
+LEG_COLUMNS = ("flight, first_date, last_date, days, leg, departure_station, arrival_station, departure_passenger, arrival_passenger, service, "
+               "aircraft, bookings, configuration, departure_terminal, arrival_terminal")
 BOARDS = 12
 
 
@@ -126,8 +130,8 @@ class Checks:
         for base in self.bases:
             base.load(script)
 
-    def compare(self, rng, path):
-        """Loads the script of a file twice, and compares all that it makes."""
+    def compare(self, rng, path, base=None):
+        """Loads the script of a file twice, and compares all that it makes. A desk has the data set of the file `base`."""
         script = self.run("sql", path)
         for _ in range(2):
             self.load(script)
@@ -135,21 +139,34 @@ class Checks:
         self.expect(f"{path}: one row", f"SELECT COUNT(*) FROM timetable WHERE timetable = {name}", [["1"]])
         self.legs(path, name)
         self.boards(rng, path, name)
-        if path.endswith(".desk"):
+        if base is None:
+            self.expect(f"{path}: no change", f"SELECT COUNT(*) FROM change WHERE timetable = {name}", [["0"]])
+        else:
             self.held(path, name)
+            self.changes(path, base, name)
         return name
 
     def legs(self, path, name):
-        wanted = [[it["flight"], it["first"], it["last"], it["days"], str(int(it["leg"])), it["from"], it["to"], it["passenger_departure"],
-                   it["passenger_arrival"], it["service"], it["aircraft"], it["bookings"], it["configuration"], it["departure_terminal"],
-                   it["arrival_terminal"]] for it in self.cells("list", "--csv", path)]
-        self.expect(f"{path}: leg", "SELECT flight, first_date, last_date, days, leg, departure_station, arrival_station, departure_passenger, "
-                    "arrival_passenger, service, aircraft, bookings, configuration, departure_terminal, arrival_terminal FROM leg "
-                    f"WHERE timetable = {name}", wanted)
+        wanted = [leg_cells(it) for it in self.cells("list", "--csv", path)]
+        self.expect(f"{path}: leg", f"SELECT {LEG_COLUMNS} FROM leg WHERE timetable = {name}", wanted)
         wanted = [[it["flight"], it["first"], str(int(it["leg"])), it["from"], it["to"], it["aircraft"]]
                   for it in self.cells("list", "--csv", "--dates", path)]
         self.expect(f"{path}: flown", "SELECT flight, date, leg, departure_station, arrival_station, aircraft FROM flown "
                     f"WHERE timetable = {name}", wanted)
+
+    def changes(self, path, base, name):
+        """The legs and the dates on which a desk differs from its data set."""
+        rows = [(side, it) for it in self.cells("diff", "--csv", base, path)
+                for side in (["old", "new"] if it["side"] == "both" else [it["side"]])]
+        wanted = [[side, *leg_cells(it)] for side, it in rows]
+        self.expect(f"{path}: change", f"SELECT side, {LEG_COLUMNS} FROM change WHERE timetable = {name}", wanted)
+        wanted = [[it["flight"], day.isoformat(), side, str(int(it["leg"])), it["from"], it["to"], it["service"], it["aircraft"]]
+                  for side, it in rows for day in dates_of(*map(datetime.date.fromisoformat, (it["first"], it["last"])), it["days"])]
+        self.expect(f"{path}: changed", "SELECT flight, date, side, leg, departure_station, arrival_station, service, aircraft FROM changed "
+                    f"WHERE timetable = {name}", wanted)
+        last = self.text("diff", base, path).splitlines()[-1].split(" ")
+        self.expect(f"{path}: flights and dates that differ", "SELECT COUNT(DISTINCT flight), COUNT(*) FROM "
+                    f"(SELECT DISTINCT flight, date FROM changed WHERE timetable = {name}) c", [last[2::2] or ["0", "0"]])
 
     def boards(self, rng, path, name):
         ends = self.cells("list", "--csv", path)
@@ -195,6 +212,13 @@ class Checks:
             self.expect(f"{table} after scripts that are cut", f"SELECT COUNT(*) FROM {table}", before[number])
 
 
+def leg_cells(it):
+    """The cells of a leg that are in LEG_COLUMNS, too."""
+    return [it["flight"], it["first"], it["last"], it["days"], str(int(it["leg"])), it["from"], it["to"], it["passenger_departure"],
+            it["passenger_arrival"], it["service"], it["aircraft"], it["bookings"], it["configuration"], it["departure_terminal"],
+            it["arrival_terminal"]]
+
+
 def date_of(iso):
     return f"{iso[8:]}{'JAN FEB MAR APR MAY JUN JUL AUG SEP OCT NOV DEC'.split()[int(iso[5:7]) - 1]}{iso[2:4]}"
 
@@ -229,7 +253,7 @@ class Desks:
         self.checks.run("start", "season.ssim", "stations.txt", "fdh.desk")
         texts = sorted(glob.glob(os.path.join(SAMPLES, "texts", "*")))
         self.checks.run("receive", "fdh.desk", "fdh.desk", *texts, "mail.txt")
-        return ["season.ssim", "fdh.desk"]
+        return "season.ssim", "fdh.desk"
 
     def hostile(self):
         with open(os.path.join(SAMPLES, "season.ssim"), "rb") as file:
@@ -239,10 +263,10 @@ class Desks:
         self.write("hostile.ssm", messages.written(lines))
         self.checks.run("start", "hostile.ssim", "stations.txt", "hostile.desk")
         self.checks.run("take", "hostile.desk", "hostile.desk", "hostile.ssm")
-        return "hostile.desk", held
+        return "hostile.desk", "hostile.ssim", held
 
     def made(self, rng, number):
-        """A desk of a made data set with a few messages."""
+        """A desk of a made data set with a few messages, and the data set."""
         records = small.data_set(rng)
         season, name = messages.Season(records), f"made{number}.desk"
         self.write("made.ssim", small.file_bytes(rng, records))
@@ -251,7 +275,7 @@ class Desks:
         for _ in range(4):
             self.write("made.ssm", messages.written(messages.message(rng, season)))
             subprocess.run([self.checks.program, "take", name, name, "made.ssm"], cwd=self.checks.folder, capture_output=True, check=False)
-        return name
+        return name, "made.ssim"
 
 
 def main():
@@ -267,14 +291,15 @@ def main():
             print(f"{missing}: SQLite alone")
         checks = Checks(os.path.abspath(sys.argv[1]), folder, bases)
         desks = Desks(checks)
-        for path in desks.samples():
-            checks.compare(rng, path)
-        checks.cut(rng, "fdh.desk")
-        path, held = desks.hostile()
-        name = checks.compare(rng, path)
+        base, path = desks.samples()
+        for it in (base, path, base, path):
+            checks.compare(rng, it, None if it == base else base)
+        checks.cut(rng, path)
+        path, base, held = desks.hostile()
+        name = checks.compare(rng, path, base)
         checks.expect("carried bytes", f"SELECT DISTINCT bookings FROM leg WHERE timetable = {name}", [[it] for it in sorted(held)])
         for number in range(12):
-            checks.compare(rng, desks.made(rng, number))
+            checks.compare(rng, *desks.made(rng, number))
         for base in bases[1:]:
             base.close()
     print(f"{checks.passed} passed, {checks.failed} failed")

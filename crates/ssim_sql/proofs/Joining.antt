@@ -1,5 +1,5 @@
 -- Bytes that are added one after another.
-use Rattle.std.proofs.Common.{◌≡◌, ℕ, List, [], ◌++◌}
+use Rattle.std.proofs.Common.{◌≡◌, ℕ, List, ◌++◌}
 use Rattle.ssim_listing.proofs.Joining.{joined}
 
 -- x, then y, then z
@@ -17,8 +17,10 @@ pub five_joined : (a x y z w v : List ℕ) {b c d e f : List ℕ} → b ≡ a ++
     → f ≡ a ++ (x ++ y ++ z ++ w ++ v)
 five_joined a x y z w v g h i j k = joined a (x ++ y ++ z ++ w) v (four_joined a x y z w g h i j) k
 
--- six lists, one after another, the first of them from nothing
-pub six_joined : (x y z w v u : List ℕ) {a b c d e f : List ℕ} → a ≡ x → b ≡ a ++ y → c ≡ b ++ z
-    → d ≡ c ++ w → e ≡ d ++ v → f ≡ e ++ u → f ≡ x ++ y ++ z ++ w ++ v ++ u
-six_joined x y z w v u g h i j k l =
-    joined [] (x ++ y ++ z ++ w ++ v) u (five_joined [] x y z w v g h i j k) l
+-- seven lists, one after another
+pub seven_joined : (a x y z w v u t : List ℕ) {b c d e f g h : List ℕ} → b ≡ a ++ x → c ≡ b ++ y
+    → d ≡ c ++ z → e ≡ d ++ w → f ≡ e ++ v → g ≡ f ++ u → h ≡ g ++ t
+    → h ≡ a ++ (x ++ y ++ z ++ w ++ v ++ u ++ t)
+seven_joined a x y z w v u t i j k l m n o =
+    joined a (x ++ y ++ z ++ w ++ v ++ u) t
+    (joined a (x ++ y ++ z ++ w ++ v) u (five_joined a x y z w v i j k l m) n) o

@@ -1,3 +1,4 @@
 pub mod Joining
 pub mod PlainTexts
 pub mod Reading
+pub mod Rows

@@ -1,10 +1,11 @@
 -- The rows of the table `leg`: a row for each period and leg of a flight.
-use Rattle.std.specs.Prelude.{ℕ, ◌-◌, ◌==◌, Bool, if◌then◌else◌, List, [], ◌∷◌, Option, Some, None}
-use Rattle.std.specs.Prelude.{codes, unwrap_or}
+use Rattle.std.specs.Prelude.{ℕ, ◌-◌, ◌==◌, Bool, if◌then◌else◌, List, [], ◌∷◌, ◌++◌}
+use Rattle.std.specs.Prelude.{Option, Some, None, codes, map, unwrap_or}
 use Rattle.std.specs.Fmt.{decimal}
 use Rattle.std.specs.List.{flat_map}
 use Rattle.ssim_values.specs.Clock.{clock_text}
 use Rattle.ssim_values.specs.DayMask.{digits_of}
+use Rattle.ssim_values.specs.Flight.{FlightNumber}
 use Rattle.ssim_values.specs.Period.{DayRange}
 use Rattle.ssim_values.specs.declared.time_mode.TimeMode.{TimeMode}
 use Rattle.ssim_text.specs.Left.{without_end}
@@ -55,14 +56,19 @@ flag test = decimal (if test then 1 else 0)
 
 -- ---- the rows
 
--- The values of a leg of a flight on a period. Times are those of `board`; their days count from
--- the date of origin, which is day 0 of the calendar here: the day before it has the number 0.
-abbrev pub leg_values : TimeMode → List ℕ → DayRange → ℕ → List ℕ → List (List ℕ)
-leg_values mode flight period sequence d =
+-- the values of a flight on a period: its name, the first and the last date, and the weekdays
+abbrev pub period_values : List ℕ → DayRange → List (List ℕ)
+period_values flight period =
+    quote flight ∷ quote (iso_date period.first) ∷ quote (iso_date period.last)
+    ∷ quote (digits_of period.days) ∷ []
+
+-- The values of a leg. Times are those of `board`; their days count from the date of origin, which
+-- is day 0 of the calendar here: the day before it has the number 0.
+abbrev pub leg_values : TimeMode → ℕ → List ℕ → List (List ℕ)
+leg_values mode sequence d =
     let departs = departure_time mode 0 d in let departs_utc = departure_utc mode 0 d in
     let arrives = arrival_time mode 0 d in let arrives_utc = arrival_utc mode 0 d in
-    quote flight ∷ quote (iso_date period.first) ∷ quote (iso_date period.last)
-    ∷ quote (digits_of period.days) ∷ decimal sequence
+    decimal sequence
     ∷ text 37 39 d ∷ clock departs.minutes ∷ days_after departs.days
     ∷ clock departs_utc.minutes ∷ days_after departs_utc.days
     ∷ passenger 40 43 d ∷ text 53 54 d
@@ -72,10 +78,27 @@ leg_values mode flight period sequence d =
     ∷ text 14 14 d ∷ text 73 75 d ∷ text 76 95 d ∷ text 173 192 d
     ∷ text_in_place 96 127 d ∷ text_in_place 129 172 d ∷ flag (is_uncertain mode d) ∷ []
 
--- the row of a leg, of the timetable with this name
+-- the row of a leg on a period of a flight, of the timetable with this name
 unfoldable pub leg_row : List ℕ → TimeMode → List ℕ → DayRange → LegValue → List ℕ
-leg_row name mode flight period leg =
-    row_of name (leg_values mode flight period leg.sequence leg.columns)
+leg_row name mode flight period leg = row_of name
+    (period_values flight period ++ leg_values mode leg.sequence leg.columns)
+
+-- ---- of all flights
+
+-- a leg of a flight on a period: a row of `leg`, before it is text
+pub record FlightLeg : Type 0 where
+  pub flight : FlightNumber
+  pub period : DayRange
+  pub leg : LegValue
+
+-- the legs of a flight on a period
+abbrev pub piece_legs : FlightNumber → Piece → List FlightLeg
+piece_legs flight piece =
+    map (λ leg. record { flight = flight; period = piece.0; leg = leg }) piece.1
+
+-- the legs of flights on their periods, in order
+abbrev pub flight_legs : List Divided → List FlightLeg
+flight_legs flights = flat_map (λ flight. flat_map (piece_legs flight.0) flight.1) flights
 
 -- the rows of a leg of a flight, by the timetable's name and time mode, the flight's name and a
 -- period
@@ -86,14 +109,12 @@ RowsOfLeg = List ℕ → TimeMode → List ℕ → DayRange → LegValue → Lis
 abbrev pub one_row : RowsOfLeg
 one_row name mode flight period leg = leg_row name mode flight period leg ∷ []
 
--- ---- of all flights
+-- the rows of a leg of an airline's flight
+abbrev pub rows_of_leg : RowsOfLeg → List ℕ → TimeMode → List ℕ → FlightLeg → List (List ℕ)
+rows_of_leg rows name mode airline it =
+    rows name mode (flight_name airline it.flight) it.period it.leg
 
--- the rows of a piece of a flight
-abbrev pub piece_rows : RowsOfLeg → List ℕ → TimeMode → List ℕ → Piece → List (List ℕ)
-piece_rows rows name mode flight piece = flat_map (rows name mode flight piece.0) piece.1
-
--- the rows of an airline's flights, each with its pieces
+-- the rows of the legs of an airline's flights
 abbrev pub flight_rows : RowsOfLeg → List ℕ → TimeMode → List ℕ → List Divided → List (List ℕ)
-flight_rows rows name mode airline flights = flat_map
-    (λ flight. flat_map (piece_rows rows name mode (flight_name airline flight.0)) flight.1)
-    flights
+flight_rows rows name mode airline flights =
+    flat_map (rows_of_leg rows name mode airline) (flight_legs flights)

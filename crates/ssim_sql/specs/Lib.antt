@@ -4,7 +4,9 @@ pub mod Statements
 pub mod Timetable
 pub mod LegRows
 pub mod SegmentRows
+pub mod ChangeRows
 pub mod Messages
 pub mod DayRows
 pub mod Script
 pub mod internal
+pub mod examples

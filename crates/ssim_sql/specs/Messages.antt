@@ -1,6 +1,7 @@
 -- The rows of what a desk holds: its station table, its messages, and what these found.
-use Rattle.std.specs.Prelude.{ℕ, List, [], ◌∷◌, ◌++◌, drop, length}
+use Rattle.std.specs.Prelude.{ℕ, List, [], ◌∷◌, ◌++◌, drop, length, map}
 use Rattle.std.specs.Fmt.{decimal}
+use Rattle.std.specs.List.{zip}
 use Rattle.ssim_values.specs.DayMask.{digits_of}
 use Rattle.ssim_values.specs.Designator.{designator_text}
 use Rattle.ssim_values.specs.Variation.{variation_text}
@@ -44,17 +45,17 @@ sub_row name dated found = row_of name (
     ∷ decimal found.finding.acted ∷ decimal found.finding.absent ∷ decimal found.finding.present
     ∷ decimal found.finding.leg ∷ decimal found.finding.station ∷ [])
 
--- the rows of the sub-messages with these full dates, of which these are the first findings
-abbrev pub sub_rows : List ℕ → List ResolvedSub → List FindingLine → List (List ℕ)
-sub_rows name (dated ∷ dates) (found ∷ findings) =
-    sub_row name dated found ∷ sub_rows name dates findings
-sub_rows _ _ _ = []
+-- the sub-messages of messages, each with its full dates and what it found: rows of `sub_message`,
+-- before they are text; the findings are those of all of them, in order
+abbrev pub subs_found : List Entry → List FindingLine → List (ResolvedSub × FindingLine)
+subs_found [] findings = []
+subs_found (e ∷ entries) findings =
+    zip e.dates findings ++ subs_found entries (drop (length e.dates) findings)
 
--- the rows of the sub-messages of messages; the findings are those of all of them, in order
-abbrev pub rows_of_subs : List ℕ → List Entry → List FindingLine → List (List ℕ)
-rows_of_subs name [] findings = []
-rows_of_subs name (e ∷ entries) findings =
-    sub_rows name e.dates findings ++ rows_of_subs name entries (drop (length e.dates) findings)
+-- the rows of the sub-messages of messages
+abbrev pub sub_message_rows : List ℕ → List Entry → List FindingLine → List (List ℕ)
+sub_message_rows name entries findings =
+    map (λ it. sub_row name it.0 it.1) (subs_found entries findings)
 
 -- The statements of what a desk holds: the rows of its station table, its messages in order of
 -- reference, and their sub-messages.
@@ -62,4 +63,4 @@ unfoldable pub held_statements : List ℕ → DeskSeen → List ℕ
 held_statements name desk =
     statements STATION_ROW_HEAD.now (numbered (station_row name) 1 desk.base.rows)
     ++ statements MESSAGE_HEAD.now (numbered (message_row name) 1 desk.held)
-    ++ statements SUB_MESSAGE_HEAD.now (rows_of_subs name desk.held (finding_lines desk))
+    ++ statements SUB_MESSAGE_HEAD.now (sub_message_rows name desk.held (finding_lines desk))

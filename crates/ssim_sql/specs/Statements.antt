@@ -1,6 +1,6 @@
 -- Rows, and the statements that insert them.
-use Rattle.std.specs.Prelude.{ℕ, ◌+◌, ◌==◌, nat_lt, if◌then◌else◌, List, [], ◌∷◌, ◌++◌, codes}
-use Rattle.std.specs.List.{flat_map}
+use Rattle.std.specs.Prelude.{ℕ, ◌+◌, ◌==◌, nat_lt, if◌then◌else◌, List, [], ◌∷◌, ◌++◌, codes, map}
+use Rattle.std.specs.List.{enumerate_from, flat_map}
 use Rattle.ssim_sql.specs.Literal.{quote}
 
 -- a row of a value and others: in parentheses, with a comma between two
@@ -37,5 +37,4 @@ statements head rows = statements_from head 0 rows
 
 -- values in order, each with its number from n on, as rows
 abbrev pub numbered : {V : Type 0} → (ℕ → V → List ℕ) → ℕ → List V → List (List ℕ)
-numbered text n [] = []
-numbered text n (value ∷ later) = text n value ∷ numbered text (n + 1) later
+numbered text n values = map (λ it. text it.0 it.1) (enumerate_from n values)

@@ -3,3 +3,4 @@
 pub mod Tables
 pub mod Values
 pub mod Rows
+pub mod SubRows

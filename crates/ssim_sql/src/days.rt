@@ -119,7 +119,7 @@ fn push_day(script: &mut Vec<u8>, number: usize) -> Result<(), Memory>
     let date = date_of(number);
     let weekday = [b'1' + ((number + 4) % 7) as u8];
     let values = [Value::Text(&date), Value::Text(&weekday)];
-    push_row(script, &Value::DayCount(number), &values)
+    push_row(script, &Value::DayCount(number), &values, &[])
 }
 
 // The date that is a number of days after 31 December 1999.

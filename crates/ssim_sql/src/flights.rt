@@ -1,16 +1,12 @@
 //! The rows of flights: of each leg on each period.
 
-ghost use Rattle.std.specs.Prelude.{◌≡◌, ◌++◌, ℕ, List, IfOk, OnOk};
-ghost use Rattle.std.specs.List.{flat_map};
-ghost use Rattle.ssim_listing.specs.Lines.{flight_name};
-ghost use Rattle.ssim_sql.specs.LegRows.{flight_rows, piece_rows};
-ghost use Rattle.ssim_sql.specs.Statements.{statements};
-ghost use Rattle.ssim_sql.specs.internal.Rows.{rows_in};
+ghost use Rattle.std.specs.Prelude.{◌≡◌, ◌++◌, ℕ, List, OnOk};
+ghost use Rattle.ssim_sql.specs.internal.Rows.{piece_rows, pieces_rows, rows_in};
 ghost use Rattle.ssim_sql.specs.internal.Tables.{script_with};
 
-use crate::leg_rows::put_leg;
+use crate::leg_rows::{put_leg, put_side};
 use crate::segment_rows::put_segments;
-use crate::table::{Rowed, Table, complete, put_each, table_after};
+use crate::table::{Rowed, Table, put_each};
 use ssim_listing::name_of;
 use ssim_schedule::{FlightPieces, Itinerary, PlacedLeg};
 use ssim_values::{Airline, Memory, Period, TimeMode};
@@ -22,6 +18,10 @@ pub(crate) enum LegTable {
     Legs,
     /// A row for each segment record.
     Segments,
+    /// A row for each leg that the data set has where a flight differs from it.
+    Old,
+    /// A row for each leg that a flight has where it differs from the data set.
+    New,
 }
 
 /// A timetable whose flights have rows in a table.
@@ -55,25 +55,9 @@ pub(crate) struct PeriodOf<'a> {
     pub(crate) period: Period,
 }
 
-/// A script with the statements of flights in a table, whose statements begin with this line.
-pub(crate) fn flights_after(
-    script: Vec<u8>,
-    head: &'static [u8],
-    of: &Flights<'_>,
-    flights: &[FlightPieces],
-) -> Result<Vec<u8>, Memory>
-    ensures { IfOk result (λ made. made.items ≡ script.items ++ statements head.now
-        (flight_rows (rows_in of.now.table) of.now.name.now of.now.mode of.now.airline
-        flights.now)) }
-{
-    let mut table = table_after(script, head);
-    put_each(&mut table, of, flights)?;
-    complete(table)
-}
-
 impl Rowed<Flights<'_>> for FlightPieces {
-    ghost rows = { λ of flight. flat_map (piece_rows (rows_in of.table) of.name.now of.mode
-        (flight_name of.airline flight.0)) flight.1 };
+    ghost rows = { λ of flight.
+        pieces_rows (rows_in of.table) of.name.now of.mode of.airline flight };
 
     // Adds the rows of each period.
     fn put(&self, of: &Flights<'_>, table: &mut Table) -> Result<(), Memory> {
@@ -113,6 +97,8 @@ impl Rowed<PeriodOf<'_>> for PlacedLeg {
         match of.table {
             LegTable::Legs => put_leg(table, of, self),
             LegTable::Segments => put_segments(table, of, self),
+            LegTable::Old => put_side(table, of, b"old", self),
+            LegTable::New => put_side(table, of, b"new", self),
         }
     }
 }

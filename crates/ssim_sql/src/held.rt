@@ -7,9 +7,10 @@ ghost use Rattle.ssim_listing.specs.Rows.{iso_date};
 ghost use Rattle.ssim_sql.specs.Literal.{quote};
 ghost use Rattle.ssim_text.specs.Reference.{printed_reference};
 ghost use Rattle.ssim_desk.specs.Desk.{finding_lines};
-ghost use Rattle.ssim_sql.specs.Messages.{held_statements, message_row, rows_of_subs};
-ghost use Rattle.ssim_sql.specs.Messages.{station_row, sub_row, sub_rows};
+ghost use Rattle.ssim_sql.specs.Messages.{held_statements, message_row, station_row};
+ghost use Rattle.ssim_sql.specs.Messages.{sub_message_rows, sub_row};
 ghost use Rattle.ssim_sql.specs.Statements.{numbered, statements};
+ghost use Rattle.ssim_sql.specs.internal.SubRows.{rows_of_subs, sub_rows};
 ghost use Rattle.ssim_sql.specs.internal.Tables.{script_with};
 ghost use Rattle.ssim_sql.specs.internal.Values.{value_text};
 
@@ -162,7 +163,7 @@ fn with_subs(
     findings: &[FindingLine],
 ) -> Result<Vec<u8>, Memory>
     ensures { IfOk result (λ made. made.items ≡ script.items
-        ++ statements SUB_MESSAGE_HEAD.now (rows_of_subs name.now held.now findings.now)) }
+        ++ statements SUB_MESSAGE_HEAD.now (sub_message_rows name.now held.now findings.now)) }
 {
     let mut table = table_after(script, SUB_MESSAGE_HEAD);
     put_subs_of_all(&mut table, &Named { alloc, name }, held, findings)?;

@@ -1,16 +1,18 @@
 //! The rows of legs.
 
-ghost use Rattle.std.specs.Prelude.{◌≡◌, ◌∷◌, [], ℕ, List, IsTrue, OnOk, map};
+ghost use Rattle.std.specs.Prelude.{◌≡◌, ◌++◌, ◌∷◌, [], ℕ, List, IsTrue, OnOk, map};
 ghost use Rattle.ssim_records.specs.clauses.Leg.{is_own};
 ghost use Rattle.ssim_board.specs.Movements.{time_of, utc_time_of};
+ghost use Rattle.ssim_sql.specs.ChangeRows.{side_row};
 ghost use Rattle.ssim_sql.specs.LegRows.{clock, clock_or_null, days_after, flag, leg_row};
-ghost use Rattle.ssim_sql.specs.LegRows.{leg_values, text, text_in_place};
+ghost use Rattle.ssim_sql.specs.LegRows.{leg_values, period_values, text, text_in_place};
+ghost use Rattle.ssim_sql.specs.Literal.{quote};
 ghost use Rattle.ssim_sql.specs.internal.Tables.{script_with};
 ghost use Rattle.ssim_sql.specs.internal.Values.{value_text};
 
 use crate::blanks::trimmed;
 use crate::flights::PeriodOf;
-use crate::table::{Table, put_row};
+use crate::table::{Table, put_long_row};
 use crate::value::Value;
 use ssim_board::MovementKind::{Arrival, Departure};
 use ssim_board::{MovementKind, is_uncertain, time_of, utc_time_of};
@@ -30,27 +32,60 @@ pub(crate) fn put_leg(table: &mut Table, of: &PeriodOf<'_>, leg: &PlacedLeg) -> 
         table.old (leg_row of.now.name.now of.now.mode of.now.flight.now of.now.period leg.now
         ∷ later)) }
 {
+    let period = period_values(of.flight, of.period);
     let columns = leg.columns();
-    let values = leg_values(of.mode, of.flight, of.period, leg.sequence(), &columns);
-    put_row(table, of.name, &values)
+    let values = leg_values(of.mode, leg.sequence(), &columns);
+    put_long_row(table, of.name, &period, &values)
 }
 
-// The values of a leg, in the order of the columns of the table.
-fn leg_values<'a>(
-    mode: TimeMode,
-    flight: &'a [u8],
-    period: Period,
-    sequence: u8,
-    columns: &'a LegColumns,
-) -> [Value<'a>; 26]
-    ensures { map value_text result
-        ≡ leg_values mode flight.now period sequence columns.now }
+/// Adds the row of a leg of a side on a period on which its flight differs.
+#[tactic(auto, unfolding(crate::specs::ChangeRows::side_row))]
+pub(crate) fn put_side(
+    table: &mut Table,
+    of: &PeriodOf<'_>,
+    side: &[u8],
+    leg: &PlacedLeg,
+) -> Result<(), Memory>
+    ensures { OnOk result ((later : List (List ℕ)) → script_with table.new later ≡ script_with
+        table.old (side_row side.now of.now.name.now of.now.mode of.now.flight.now of.now.period
+        leg.now ∷ later)) }
+{
+    let period = side_values(of.flight, of.period, side);
+    let columns = leg.columns();
+    let values = leg_values(of.mode, leg.sequence(), &columns);
+    put_long_row(table, of.name, &period, &values)
+}
+
+// The values of a flight on a period, in the order of the columns of the tables.
+fn period_values<'a>(flight: &'a [u8], period: Period) -> [Value<'a>; 4]
+    ensures { map value_text result ≡ period_values flight.now period }
 {
     [
         Value::Text(flight),
         Value::Date(period.first()),
         Value::Date(period.last()),
         Value::Weekdays(period.mask()),
+    ]
+}
+
+// The values of a flight on a period, and a side.
+fn side_values<'a>(flight: &'a [u8], period: Period, side: &'a [u8]) -> [Value<'a>; 5]
+    ensures { map value_text result ≡ period_values flight.now period ++ quote side.now ∷ [] }
+{
+    [
+        Value::Text(flight),
+        Value::Date(period.first()),
+        Value::Date(period.last()),
+        Value::Weekdays(period.mask()),
+        Value::Text(side),
+    ]
+}
+
+// The values of a leg, in the order of the columns of the tables.
+fn leg_values<'a>(mode: TimeMode, sequence: u8, columns: &'a LegColumns) -> [Value<'a>; 22]
+    ensures { map value_text result ≡ leg_values mode sequence columns.now }
+{
+    [
         Value::Number(sequence as u64),
         text(columns, DEPARTURE_STATION),
         local_clock(mode, columns, Departure),

@@ -3,7 +3,8 @@
 //! - [`script_of`]: the script of a desk, or of a data set. Within one transaction it makes the
 //!   tables that are not there, deletes the rows of this timetable, and inserts them.
 //!
-//! The rows of legs are the canonical periods that `ssim_schedule` gives. All bytes of a data set
+//! The rows of legs are the canonical periods that `ssim_schedule` gives, and those of changes the
+//! periods that `ssim_difference` gives from the data set of a desk. All bytes of a data set
 //! or of a message are texts of SQL; a byte above 127 is the character of its number in UTF-8.
 //! The only error is [`Memory`].
 //!
@@ -15,6 +16,7 @@
 #![tactic(auto)]
 
 mod blanks;
+mod changes;
 mod constant;
 mod days;
 mod flights;

@@ -1,19 +1,22 @@
 //! The whole script.
 
 ghost use Rattle.std.specs.Prelude.{◌≡◌, ◌++◌, IfOk, OnOk};
-ghost use Rattle.ssim_sql.specs.Script.{beginning, delete, deletes, ending};
+ghost use Rattle.ssim_sql.specs.Script.{beginning, change_statements, delete, deletes, ending};
 ghost use Rattle.ssim_sql.specs.Script.{flight_statements};
 ghost use Rattle.ssim_sql.specs.Script.{message_count, script_of};
 
-use crate::constant::heads::{LEG_HEAD, SEGMENT_HEAD};
+use crate::changes::{Changes, Flown, flown_by};
+use crate::constant::heads::{CHANGE_HEAD, LEG_HEAD, SEGMENT_HEAD};
 use crate::constant::tables::TABLES;
 use crate::constant::views::VIEWS;
 use crate::days::{days_with, push_days, with_flights};
-use crate::flights::{Flights, LegTable, flights_after};
+use crate::flights::{Flights, LegTable};
 use crate::held::held_statements;
+use crate::table::each_after;
 use crate::timetable::{timetable_name, with_timetable};
 use crate::value::push_text;
 use ssim_desk::Holdings;
+use ssim_difference::FlightDifference;
 use ssim_records::Carrier;
 use ssim_schedule::FlightPieces;
 use ssim_values::Memory;
@@ -33,12 +36,13 @@ pub fn script_of(
     let held = held_statements(alloc, &name, &desk)?;
     let messages = message_count(is_desk, &desk);
     let days = days_with(carrier, desk.held());
-    let flights = desk.into_flights()?;
+    let Flown { flights, changes } = flown_by(alloc, desk)?;
     let mut script = beginning(alloc, &name)?;
     push_days(&mut script, with_flights(days, &flights))?;
     let script = with_timetable(alloc, script, &name, carrier, messages)?;
     let mut script = with_flight_rows(script, &name, carrier, &flights)?;
     script.extend_from_slice(&held)?;
+    let mut script = with_changes(script, &name, carrier, &changes)?;
     push_ending(&mut script)?;
     Ok(script)
 }
@@ -75,7 +79,8 @@ fn push_deletes(script: &mut Vec<u8>, name: &[u8]) -> Result<(), Memory>
     push_delete(script, name, b"segment")?;
     push_delete(script, name, b"station_row")?;
     push_delete(script, name, b"message")?;
-    push_delete(script, name, b"sub_message")
+    push_delete(script, name, b"sub_message")?;
+    push_delete(script, name, b"change")
 }
 
 // Adds what deletes the rows of a timetable from a table.
@@ -107,9 +112,28 @@ fn with_flight_rows(
         mode: carrier.time_mode(),
         airline: carrier.airline(),
     };
-    let script = flights_after(script, LEG_HEAD, &of, flights)?;
+    let script = each_after(script, LEG_HEAD, &of, flights)?;
     of.table = LegTable::Segments;
-    flights_after(script, SEGMENT_HEAD, &of, flights)
+    each_after(script, SEGMENT_HEAD, &of, flights)
+}
+
+// A script with the rows of the changes of flights.
+#[tactic(auto, unfolding(crate::specs::Script::change_statements))]
+fn with_changes(
+    script: Vec<u8>,
+    name: &[u8],
+    carrier: &Carrier,
+    changes: &[FlightDifference],
+) -> Result<Vec<u8>, Memory>
+    ensures { IfOk result (λ made. made.items
+        ≡ script.items ++ change_statements name.now carrier.now changes.now) }
+{
+    let of = Changes {
+        name,
+        mode: carrier.time_mode(),
+        airline: carrier.airline(),
+    };
+    each_after(script, CHANGE_HEAD, &of, changes)
 }
 
 // Adds the end of a script.

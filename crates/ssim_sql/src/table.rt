@@ -81,6 +81,22 @@ fn end_of(place: u16) -> &'static [u8]
     if place == 0 { b"" } else { b";\n" }
 }
 
+/// A script with the statements of the rows of each value, in order. The statements begin with this
+/// line.
+pub(crate) fn each_after<C, T: Rowed<C>>(
+    script: Vec<u8>,
+    head: &'static [u8],
+    context: &C,
+    items: &[T],
+) -> Result<Vec<u8>, Memory>
+    ensures { IfOk result (λ made. made.items ≡ script.items
+        ++ statements head.now (flat_map (T.rows context.now) items.now)) }
+{
+    let mut table = table_after(script, head);
+    put_each(&mut table, context, items)?;
+    complete(table)
+}
+
 /// Adds the rows of each value, in order.
 pub(crate) fn put_each<C, T: Rowed<C>>(
     table: &mut Table,
@@ -112,14 +128,28 @@ pub(crate) fn put_numbered<C, T: Numbered<C>>(
 }
 
 /// Adds a row of the timetable with this name.
-#[tactic(auto, unfolding(crate::specs::internal::Tables::script_with))]
 pub(crate) fn put_row(table: &mut Table, name: &[u8], values: &[Value<'_>]) -> Result<(), Memory>
     ensures { OnOk result ((later : List (List ℕ)) → script_with table.new later
         ≡ script_with table.old (row_of name.now (map value_text values.now) ∷ later)) }
 {
+    put_long_row(table, name, values, &[])
+}
+
+/// Adds a row of the timetable with this name, whose values are in two parts.
+#[tactic(auto, unfolding(crate::specs::internal::Tables::script_with))]
+pub(crate) fn put_long_row(
+    table: &mut Table,
+    name: &[u8],
+    values: &[Value<'_>],
+    last: &[Value<'_>],
+) -> Result<(), Memory>
+    ensures { OnOk result ((later : List (List ℕ)) → script_with table.new later
+        ≡ script_with table.old (row_of name.now
+        (map value_text values.now ++ map value_text last.now) ∷ later)) }
+{
     let script = &mut table.script;
     script.extend_from_slice(before_row(table.head, table.place))?;
-    push_row(script, &Value::Text(name), values)?;
+    push_row(script, &Value::Text(name), values, last)?;
     script.extend_from_slice(after_row(table.place))?;
     table.place = next_place(table.place);
     Ok(())

@@ -44,18 +44,20 @@ struct AfterComma;
 #[derive(Clone, Copy)]
 struct Quoted;
 
-/// Adds a row of a value and others.
+/// Adds a row of a value, and others in two parts.
 pub(crate) fn push_row(
     script: &mut Vec<u8>,
     first: &Value<'_>,
     others: &[Value<'_>],
+    last: &[Value<'_>],
 ) -> Result<(), Memory>
     ensures { OnOk result (script.new.items ≡ script.old.items
-        ++ row (value_text first.now) (map value_text others.now)) }
+        ++ row (value_text first.now) (map value_text others.now ++ map value_text last.now)) }
 {
     script.push(b'(')?;
     push_value(script, first)?;
     push_each(script, &AfterComma, others)?;
+    push_each(script, &AfterComma, last)?;
     script.push(b')')?;
     Ok(())
 }

@@ -37,6 +37,15 @@ INSERT INTO sub_message (timetable, reference, sub, action, flight, first_date, 
 days, acted, absent, present, no_leg, no_station) VALUES
 ";
 
+/// The first line of a statement with rows of `change`.
+pub(crate) const CHANGE_HEAD: &[u8] = b"\
+INSERT INTO change (timetable, flight, first_date, last_date, days, side, leg, \
+departure_station, departure_local, departure_local_day, departure_utc, departure_utc_day, \
+departure_passenger, departure_terminal, arrival_station, arrival_local, arrival_local_day, \
+arrival_utc, arrival_utc_day, arrival_passenger, arrival_terminal, service, aircraft, bookings, \
+configuration, columns_96_127, columns_129_172, doubtful) VALUES
+";
+
 /// The first line of a statement with rows of `day`.
 pub(crate) const DAY_HEAD: &[u8] = b"\
 INSERT INTO day (number, date, weekday) VALUES

@@ -33,4 +33,15 @@ NOT NULL, sub INTEGER NOT NULL, action CHAR(3) NOT NULL, flight VARCHAR(8) NOT N
 DATE NOT NULL, last_date DATE NOT NULL, days VARCHAR(7) NOT NULL, acted INTEGER NOT NULL, \
 absent INTEGER NOT NULL, present INTEGER NOT NULL, no_leg INTEGER NOT NULL, no_station INTEGER \
 NOT NULL, PRIMARY KEY (timetable, reference, sub));
+CREATE TABLE IF NOT EXISTS change (timetable VARCHAR(7) NOT NULL, flight VARCHAR(8) NOT NULL, \
+first_date DATE NOT NULL, last_date DATE NOT NULL, days VARCHAR(7) NOT NULL, side VARCHAR(3) \
+NOT NULL, leg INTEGER NOT NULL, departure_station CHAR(3) NOT NULL, departure_local CHAR(5) NOT \
+NULL, departure_local_day INTEGER NOT NULL, departure_utc CHAR(5) NOT NULL, departure_utc_day \
+INTEGER NOT NULL, departure_passenger CHAR(5), departure_terminal VARCHAR(4) NOT NULL, \
+arrival_station CHAR(3) NOT NULL, arrival_local CHAR(5) NOT NULL, arrival_local_day INTEGER NOT \
+NULL, arrival_utc CHAR(5) NOT NULL, arrival_utc_day INTEGER NOT NULL, arrival_passenger \
+CHAR(5), arrival_terminal VARCHAR(4) NOT NULL, service VARCHAR(1) NOT NULL, aircraft VARCHAR(3) \
+NOT NULL, bookings VARCHAR(20) NOT NULL, configuration VARCHAR(20) NOT NULL, columns_96_127 \
+VARCHAR(32) NOT NULL, columns_129_172 VARCHAR(44) NOT NULL, doubtful INTEGER NOT NULL, PRIMARY \
+KEY (timetable, flight, first_date, side, leg));
 ";

@@ -10,6 +10,7 @@ CREATE INDEX IF NOT EXISTS sub_message_flight ON sub_message (flight);
 DROP VIEW IF EXISTS flown;
 DROP VIEW IF EXISTS departure;
 DROP VIEW IF EXISTS arrival;
+DROP VIEW IF EXISTS changed;
 CREATE VIEW flown AS SELECT l.timetable, l.flight, d.date, l.leg, l.departure_station, p.date \
 AS departure_date, l.departure_local AS departure_time, u.date AS departure_utc_date, \
 l.departure_utc AS departure_utc_time, l.departure_terminal, l.arrival_station, a.date AS \
@@ -31,4 +32,8 @@ from_station, a.date AS from_day, l.departure_local AS from_time, l.doubtful FRO
 leg l ON l.first_date <= p.date JOIN day d ON d.number = p.number - l.arrival_local_day AND \
 d.date BETWEEN l.first_date AND l.last_date AND l.days LIKE '%' || d.weekday || '%' JOIN day a \
 ON a.number = d.number + l.departure_local_day;
+CREATE VIEW changed AS SELECT c.timetable, c.flight, d.date, c.side, c.leg, \
+c.departure_station, c.departure_local, c.arrival_station, c.arrival_local, c.service, \
+c.aircraft FROM change c JOIN day d ON d.date BETWEEN c.first_date AND c.last_date AND c.days \
+LIKE '%' || d.weekday || '%';
 ";

@@ -4,7 +4,7 @@ use Rattle.std.proofs.Common.{length, sym, ap}
 use Rattle.std.proofs.lemmas.List.{drop_all, drop_more}
 use Rattle.ssim_desk.specs.declared.finding_line.FindingLine.{FindingLine}
 use Rattle.ssim_held.specs.Entries.{Entry}
-use Rattle.ssim_sql.specs.Messages.{rows_of_subs, sub_rows}
+use Rattle.ssim_sql.specs.internal.SubRows.{rows_of_subs, sub_rows}
 use Rattle.ssim_sql.specs.internal.Tables.{script_with}
 use Rattle.ssim_sql.proofs.held.put_subs_of_all.Goals as goal
 

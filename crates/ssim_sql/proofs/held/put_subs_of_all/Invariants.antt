@@ -1,6 +1,6 @@
 -- The rows so far, and those of the messages that are left, are the rows of all.
 use Rattle.std.proofs.Common.{◌≡◌, ◌++◌, List, ℕ, drop}
-use Rattle.ssim_sql.specs.Messages.{rows_of_subs}
+use Rattle.ssim_sql.specs.internal.SubRows.{rows_of_subs}
 use Rattle.ssim_sql.specs.internal.Tables.{script_with}
 use Rattle.ssim_sql.proofs.held.put_subs_of_all.Given as goal
 

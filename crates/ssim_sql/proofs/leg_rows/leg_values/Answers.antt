@@ -2,23 +2,17 @@
 use Rattle.std.proofs.Common.{◌∙◌, ◌∷◌, [], None, ap, sym}
 use Rattle.std.specs.Fmt.{decimal}
 use Rattle.std.specs.Prelude.{unwrap_or}
-use Rattle.ssim_values.specs.DayMask.{digits_of}
-use Rattle.ssim_listing.specs.Rows.{iso_date}
 use Rattle.ssim_sql.specs.LegRows.{clock_or_null, flag}
-use Rattle.ssim_sql.specs.Literal.{quote}
 use Rattle.ssim_sql.proofs.leg_rows.leg_values.Goals as goal
 
 pub returns : goal.returns
 returns c =
-    let first = c.first.ensures.value in let last = c.last.ensures.value in
-    let days = c.mask.ensures.value in
     let doubtful = c.flag.ensures ∙ ap flag c.is_uncertain.ensures in
     let leaves = c.passenger.ensures
     ∙ (λ i. clock_or_null (unwrap_or (sym c.passenger_departure_time.ensures i) None)) in
     let lands = c.passenger-2.ensures
     ∙ (λ i. clock_or_null (unwrap_or (sym c.passenger_arrival_time.ensures i) None)) in
-    λ k. quote c.args.flight.now ∷ quote (iso_date (first k)) ∷ quote (iso_date (last k))
-    ∷ quote (digits_of (days k)) ∷ decimal c.args.sequence
+    λ k. decimal c.args.sequence
     ∷ c.text.ensures k ∷ c.local_clock.ensures k ∷ c.local_day.ensures k
     ∷ c.utc_clock.ensures k ∷ c.utc_day.ensures k
     ∷ leaves k ∷ c.text-2.ensures k

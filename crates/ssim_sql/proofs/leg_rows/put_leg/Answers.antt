@@ -1,5 +1,5 @@
--- The values are those of the leg.
-use Rattle.std.proofs.Common.{◌≡◌, ◌∙◌, ◌∷◌, List, ℕ, OnOk, subst}
+-- The values are those of the period and of the leg.
+use Rattle.std.proofs.Common.{◌≡◌, ◌∙◌, ◌++◌, ◌∷◌, List, ℕ, OnOk, subst}
 use Rattle.ssim_sql.specs.LegRows.{leg_row, leg_values}
 use Rattle.ssim_sql.specs.Statements.{row_of}
 use Rattle.ssim_sql.specs.internal.Tables.{script_with}
@@ -9,10 +9,10 @@ pub returns : goal.returns
 unfolding leg_row
 returns c =
     let of = c.args.of.now in
-    subst (λ (values : List (List ℕ)). OnOk c.put_row.result ((later : List (List ℕ))
-    → script_with c.put_row.new.table later
+    let values = c.leg_values-values.ensures
+    ∙ (λ k. leg_values of.mode (c.sequence.ensures.value k) (c.columns-columns.ensures k)) in
+    subst (λ (values : List (List ℕ)). OnOk c.put_long_row.result ((later : List (List ℕ))
+    → script_with c.put_long_row.new.table later
     ≡ script_with c.args.table.now (row_of of.name.now values ∷ later)))
-    (c.leg_values-values.ensures
-    ∙ (λ k. leg_values of.mode of.flight.now of.period (c.sequence.ensures.value k)
-    (c.columns-columns.ensures k)))
-    c.put_row.ensures
+    (λ k. c.period_values-period.ensures k ++ values k)
+    c.put_long_row.ensures

@@ -2,8 +2,7 @@
 use Rattle.std.proofs.Common.{◌≡◌, ◌∙◌, ◌++◌, List, ℕ, OnOk, ap, subst}
 use Rattle.std.specs.List.{flat_map}
 use Rattle.ssim_listing.specs.Lines.{flight_name}
-use Rattle.ssim_sql.specs.LegRows.{piece_rows}
-use Rattle.ssim_sql.specs.internal.Rows.{rows_in}
+use Rattle.ssim_sql.specs.internal.Rows.{piece_rows, rows_in}
 use Rattle.ssim_sql.specs.internal.Tables.{script_with}
 use Rattle.ssim_sql.proofs.flights.FlightPiecesRowedFlights.put.Goals as goal
 

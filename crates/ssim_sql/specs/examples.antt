@@ -1,0 +1,2 @@
+-- Small examples, checked by computation. No definition uses them.
+pub mod Changes
