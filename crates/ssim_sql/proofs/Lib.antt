@@ -1,4 +1,12 @@
+pub mod ChangeKeys
+pub mod Distinct
+pub mod FlightKeys
 pub mod Joining
+pub mod Keys
+pub mod LegKeys
+pub mod LegsBack
+pub mod MessageKeys
+pub mod PieceKeys
 pub mod PlainTexts
 pub mod Reading
 pub mod Rows

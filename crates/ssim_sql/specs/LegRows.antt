@@ -1,19 +1,20 @@
 -- The rows of the table `leg`: a row for each period and leg of a flight.
-use Rattle.std.specs.Prelude.{ℕ, ◌-◌, ◌==◌, Bool, if◌then◌else◌, List, [], ◌∷◌, ◌++◌}
-use Rattle.std.specs.Prelude.{Option, Some, None, codes, map, unwrap_or}
+use Rattle.std.specs.Prelude.{◌≡◌, ℕ, ◌-◌, ◌==◌, Bool, ◌&&◌, if◌then◌else◌, List, [], ◌∷◌, ◌++◌}
+use Rattle.std.specs.Prelude.{Option, Some, None, codes, filter, map, unwrap_or}
 use Rattle.std.specs.Fmt.{decimal}
 use Rattle.std.specs.List.{flat_map}
 use Rattle.ssim_values.specs.Clock.{clock_text}
 use Rattle.ssim_values.specs.DayMask.{digits_of}
-use Rattle.ssim_values.specs.Flight.{FlightNumber}
+use Rattle.ssim_values.specs.Flight.{FlightNumber, IsFlight}
 use Rattle.ssim_values.specs.Period.{DayRange}
 use Rattle.ssim_values.specs.declared.time_mode.TimeMode.{TimeMode}
+use Rattle.ssim_periods.specs.Calendar.{holds}
 use Rattle.ssim_text.specs.Left.{without_end}
 use Rattle.ssim_records.specs.Columns.{passenger_time_of}
 use Rattle.ssim_records.specs.Leg.{leg_columns}
 use Rattle.ssim_base.specs.Export.{Piece}
-use Rattle.ssim_base.specs.Timetable.{LegValue}
-use Rattle.ssim_schedule.specs.FlightPieces.{Divided}
+use Rattle.ssim_base.specs.Timetable.{Days, LegValue, on_day, same_flight}
+use Rattle.ssim_schedule.specs.FlightPieces.{Divided, divided_flights}
 use Rattle.ssim_listing.specs.Lines.{flight_name}
 use Rattle.ssim_listing.specs.Rows.{iso_date, iso_time}
 use Rattle.ssim_board.specs.LegTimes.{arrival_time, arrival_utc, departure_time, departure_utc}
@@ -118,3 +119,18 @@ rows_of_leg rows name mode airline it =
 abbrev pub flight_rows : RowsOfLeg → List ℕ → TimeMode → List ℕ → List Divided → List (List ℕ)
 flight_rows rows name mode airline flights =
     flat_map (rows_of_leg rows name mode airline) (flight_legs flights)
+
+-- ---- law
+
+-- whether a leg is of a flight, on a period that holds a day
+abbrev pub is_row_on : FlightNumber → ℕ → FlightLeg → Bool
+is_row_on flight day it = same_flight it.flight flight && holds it.period day
+
+-- The law of the rows of `leg`: they are the timetable. The rows of a flight whose periods hold a
+-- date are, in their order, the legs of its itinerary on this date. There are none if the flight
+-- does not fly on it.
+abbrev pub RowsAreItineraries : Type 0
+RowsAreItineraries =
+    (days : FlightNumber → Days) (flight : FlightNumber) (day : ℕ) → IsFlight flight
+    → map (λ it. it.leg) (filter (is_row_on flight day) (flight_legs (divided_flights days)))
+    ≡ on_day (days flight) day

@@ -8,5 +8,6 @@ pub mod ChangeRows
 pub mod Messages
 pub mod DayRows
 pub mod Script
+pub mod Keys
 pub mod internal
 pub mod examples

@@ -11,8 +11,8 @@
 //! The tables and the views are constant texts, the files of `schema/`. `make/schema.py` writes
 //! them into the modules of `constant`.
 //!
-//! **Promise.** The bytes of the script are exact. A text is read back as its bytes, whatever they
-//! are ([`laws`]).
+//! **Promise.** The bytes of the script are exact. By the [`laws`] a text is read back as its bytes,
+//! whatever they are, the rows of legs are the timetable, and no two rows of a table have one key.
 #![tactic(auto)]
 
 mod blanks;
