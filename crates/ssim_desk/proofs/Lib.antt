@@ -14,6 +14,7 @@ pub mod Points
 pub mod Trails
 pub mod Changes
 pub mod SomeFlights
+pub mod NamedFlights
 pub mod SomeDates
 pub mod Meant
 pub mod Exports

@@ -69,7 +69,8 @@ both_false true b e = absurd cc
 one_other : (rows : List Row) (action : Action) (sub : ResolvedSub) (t : Timetable) (g : FlightNumber) → same_flight sub.flight g ≡ false → after_one rows action sub t g ≡ t g
 one_other rows action sub t g e = λ i day. if e i && holds sub.period day then after_on rows action day (t g day) else t g day
 
-subs_other : (rows : List Row) (subs : List Sub) (dates : List ResolvedSub) (t : Timetable) (g : FlightNumber) → list_any (is_sub_of g) dates ≡ false → after_subs rows subs dates t g ≡ t g
+pub subs_other : (rows : List Row) (subs : List Sub) (dates : List ResolvedSub) (t : Timetable)
+    (g : FlightNumber) → list_any (is_sub_of g) dates ≡ false → after_subs rows subs dates t g ≡ t g
 subs_other rows [] dates t g e = refl
 subs_other rows (sub ∷ subs) [] t g e = refl
 subs_other rows (sub ∷ subs) (dated ∷ dates) t g e =
@@ -124,12 +125,12 @@ module _ (rows : List Row) (es : List Entry) (k : ℕ) (e : Entry) (within : k <
 -- ---- findings
 
 -- the flights of the sub-messages are among these
-abbrev AreAmong : List FlightNumber → List ResolvedSub → Type 0
+abbrev pub AreAmong : List FlightNumber → List ResolvedSub → Type 0
 AreAmong flights [] = Unit {0}
 AreAmong flights (dated ∷ dates) = (is_among flights dated.flight ≡ true) × AreAmong flights dates
 
 -- the flights of messages are among these
-abbrev AllAmong : List FlightNumber → List Entry → Type 0
+abbrev pub AllAmong : List FlightNumber → List Entry → Type 0
 AllAmong flights [] = Unit {0}
 AllAmong flights (e ∷ es) = AreAmong flights e.dates × AllAmong flights es
 
@@ -142,7 +143,9 @@ subs_find rows (sub ∷ subs) (dated ∷ dates) flights t u agree among =
     ∙ ap (λ (found : List Finding). finding_of rows sub.action dated.period (each_day (u dated.flight)) ∷ found)
     (subs_find rows subs dates flights (after_one rows sub.action dated t) (after_one rows sub.action dated u) (λ g is. one_agrees rows sub.action dated t u g (agree g is)) among.1)
 
-entries_find : (rows : List Row) (es : List Entry) (flights : List FlightNumber) (t u : Timetable) → AgreeAt flights t u → AllAmong flights es → entries_findings rows es t ≡ entries_findings rows es u
+pub entries_find : (rows : List Row) (es : List Entry) (flights : List FlightNumber)
+    (t u : Timetable) → AgreeAt flights t u → AllAmong flights es → entries_findings rows es t
+    ≡ entries_findings rows es u
 entries_find rows [] flights t u agree among = refl
 entries_find rows (e ∷ es) flights t u agree among =
     ap (λ (found : List Finding). found ∷ entries_findings rows es (after_entry rows e t)) (subs_find rows e.message.subs e.dates flights t u agree among.0)
@@ -166,7 +169,8 @@ subs_among before after (dated ∷ dates) = (
       (subs_among (before ++ dated.flight ∷ []) after dates),
 )
 
-all_among : (before : List FlightNumber) (es : List Entry) → AllAmong (before ++ flights_of es) es
+pub all_among : (before : List FlightNumber) (es : List Entry) → AllAmong (before ++ flights_of es)
+    es
 all_among before [] = tt
 all_among before (e ∷ es) = (
   subs_among before (flights_of es) e.dates,

@@ -4,3 +4,4 @@ pub mod Meaning
 pub mod Steps
 pub mod Agreement
 pub mod Desk
+pub mod Outcomes

@@ -119,8 +119,8 @@ pub(crate) fn lines_found(
     act_all(alloc, base.rows(), &mut schedule, messages)
 }
 
-// The flights of the sub-messages, in their order.
-fn flights_of(alloc: Global, messages: &[Held]) -> Result<Vec<Flight>, Memory>
+/// The flights of the sub-messages, in their order.
+pub(crate) fn flights_of(alloc: Global, messages: &[Held]) -> Result<Vec<Flight>, Memory>
     ensures { IfOk result (λ flights. flights.items ≡ flights_of messages.now) }
 {
     let mut flights = Vec::new(alloc);
@@ -140,15 +140,18 @@ fn push_flights(flights: &mut Vec<Flight>, subs: &[ResolvedSub]) -> Result<(), M
     Ok(())
 }
 
-// The messages act in their order. Returns a line for what each sub-message found.
-fn act_all(
+/// The messages act in their order. Returns a line for what each sub-message found.
+pub(crate) fn act_all(
     alloc: Global,
     rows: &[StationRow],
     schedule: &mut Schedule,
     messages: &[Held],
 ) -> Result<Vec<FindingLine>, Memory>
-    ensures { IfOk result (λ lines. (before : Timetable) → Shows schedule.old before → lines.items
+    ensures lines { IfOk result (λ lines. (before : Timetable) → Shows schedule.old before
+        → lines.items
         ≡ entry_lines messages.now (entries_findings rows.now messages.now before)) }
+    ensures shows { OnOk result ((before : Timetable) → Shows schedule.old before
+        → Shows schedule.new (after_entries rows.now messages.now before)) }
 {
     let mut lines = Vec::new(alloc);
     for held in messages {

@@ -21,6 +21,7 @@ ghost use Rattle.ssim_desk.specs.clauses.Desk.{WritesDesk, merge_answer};
 ghost use Rattle.ssim_desk.specs.Desk.{days_of_desk, finding_lines};
 ghost use Rattle.ssim_desk.specs.Desk.{take_answer, timetable_of};
 ghost use Rattle.ssim_desk.specs.clauses.Meaning.{Finds};
+ghost use Rattle.ssim_desk.specs.clauses.Outcomes.{AreOutcomes};
 ghost use Rattle.ssim_desk.specs.Meaning.{Means, Timetable, found_by};
 ghost use Rattle.ssim_desk.specs.internal.Changes.{IsChange, IsOffer};
 ghost use Rattle.ssim_desk.specs.Steps.{Merges, RefusesDesk, RefusesText, Takes};
@@ -31,6 +32,7 @@ use crate::finding_line::FindingLine;
 use crate::flights::{act_between, days_after, legs_after, lines_found, pieces_after};
 use crate::message_effect::act_in_order;
 use crate::offer::{Offer, offer_over};
+use crate::outcome::{Outcomes, outcomes_of};
 use ssim_base::{Base, DataSet, Stations, WriteFault};
 use ssim_held::{DeskFault, Held, Opened, first_conflict, first_new, merged, put_desk, read_desk};
 use ssim_periods::Periods;
@@ -263,6 +265,15 @@ impl Holdings {
         lines_found(self.alloc, &self.base, &self.held)
     }
 
+    /// What other messages find and leave over the same base, and what those that are held do. The
+    /// others are those that were held before a change. Only the flights are made that a message
+    /// names: no other flight is changed. Reads all records of the base.
+    pub fn outcomes_since(&self, before: &[Held]) -> Result<Outcomes, Memory>
+        ensures { IfOk result (AreOutcomes self.now.base before.now self.now.held) }
+    {
+        outcomes_of(self.alloc, &self.base, before, &self.held)
+    }
+
     /// What the data set has for a flight on a date of origin, and what each sub-message that is
     /// held did with it. Reads all records of the base.
     pub fn history(&self, flight: &Flight, day: Day) -> Result<DateHistory, Memory>
@@ -403,7 +414,7 @@ impl Holdings {
 }
 
 /// Equal messages, which share their contents.
-pub(crate) fn copies(alloc: Global, messages: &[Held]) -> Result<Vec<Held>, Memory>
+pub fn copies(alloc: Global, messages: &[Held]) -> Result<Vec<Held>, Memory>
     ensures { IfOk result (λ copies. copies.items ≡ messages.now) }
 {
     let mut copies = Vec::with_capacity(alloc, messages.len())?;

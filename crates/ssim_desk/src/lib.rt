@@ -8,6 +8,8 @@
 //! - [`Intake`]: the holdings while many messages come and go, in any order of reference.
 //! - [`Held`]: a message that a desk holds, with its reference and its canonical text.
 //! - [`FindingLine`]: what a sub-message found on the dates of its period.
+//! - [`Outcomes`]: what messages found and left before a change of what a desk holds, and after it,
+//!   of the flights that they name.
 //! - [`DateHistory`]: what each sub-message did with a flight on one date, one [`DateStep`] each.
 //! - [`run_steps`]: tries [`Step`]s on several desks, each a text or a merge, and returns an
 //!   [`Answer`] for each. A [`Holder`] is what it runs on: desks, or holdings.
@@ -36,6 +38,7 @@ mod intake;
 pub mod laws;
 mod message_effect;
 mod offer;
+mod outcome;
 mod replay;
 mod schedules;
 mod steps;
@@ -44,7 +47,8 @@ pub use date_step::{DateHistory, DateStep};
 pub use desk::{Desk, Took};
 pub use finding_line::FindingLine;
 pub use holder::Holder;
-pub use holdings::Holdings;
+pub use holdings::{Holdings, copies};
 pub use intake::Intake;
+pub use outcome::{Outcome, Outcomes};
 pub use ssim_held::{DeskFault, Held, WriteFault};
 pub use steps::{Answer, Step, run_steps};

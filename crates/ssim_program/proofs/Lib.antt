@@ -1,4 +1,6 @@
 pub mod EffectLines
+pub mod EffectFlights
+pub mod KeptBase
 pub mod LineSets
 pub mod Printers
 pub mod Acting

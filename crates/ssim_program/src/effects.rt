@@ -7,7 +7,6 @@ ghost use Rattle.ssim_base.specs.Timetable.{Days};
 ghost use Rattle.ssim_schedule.specs.FlightPieces.{divided_flights};
 ghost use Rattle.ssim_difference.specs.Lines.{last_line};
 ghost use Rattle.ssim_held.specs.Entries.{DeskSeen};
-ghost use Rattle.ssim_desk.specs.Desk.{days_of_desk};
 ghost use Rattle.ssim_program.specs.Desks.{desk_in};
 ghost use Rattle.ssim_program.specs.internal.Effects.{HasFailing, IsAsked, IsBefore, is_in};
 ghost use Rattle.ssim_program.specs.internal.Effects.{line_unless};
@@ -18,7 +17,7 @@ use crate::desk_file::open_holdings;
 use crate::print::finding::{fails, push_finding};
 use crate::refusal::Refusal;
 use crate::store::Store;
-use ssim_desk::{FindingLine, Holdings, Intake};
+use ssim_desk::{FindingLine, Held, Holdings, Intake, copies};
 use ssim_difference::{FlightDifference, date_count, differences};
 use ssim_lines::{Printed, push_each, written};
 use ssim_schedule::FlightPieces;
@@ -30,10 +29,8 @@ use std::io::Write;
 /// What is kept of a desk before a change.
 #[derive(Drop)]
 pub(crate) struct Before {
-    /// The lines of the sub-messages that fail.
-    failing: BTreeSet<Vec<u8>>,
-    /// The flights that fly, with their pieces.
-    flights: Vec<FlightPieces>,
+    /// The messages that it holds. They share their contents with those of the desk.
+    messages: Vec<Held>,
 }
 
 /// The desk in a file, before messages come and go, and what is kept of it, if the words ask for the
@@ -76,18 +73,8 @@ pub(crate) fn before_if(
 fn before_of(alloc: Global, desk: &Holdings) -> Result<Before, Memory>
     ensures { IfOk result (IsBefore desk.now) }
 {
-    let lines = desk.findings()?;
-    let failing = failing_set(alloc, &lines)?;
-    let flights = flights_of(desk)?;
-    Ok(Before { failing, flights })
-}
-
-/// The flights of a desk that fly, with their pieces.
-fn flights_of(desk: &Holdings) -> Result<Vec<FlightPieces>, Memory>
-    ensures { IfOk result (λ flights. flights.items ≡ divided_flights (days_of_desk desk.now)) }
-{
-    let schedule = desk.schedule()?;
-    schedule.into_flights()
+    let messages = copies(alloc, desk.held())?;
+    Ok(Before { messages })
 }
 
 /// The lines of the sub-messages that fail.
@@ -136,7 +123,8 @@ fn line_of(alloc: Global, found: &FindingLine) -> Result<Vec<u8>, Memory>
     Ok(line)
 }
 
-/// Adds the effects of a change to lines, if something is kept of the desk before it.
+/// Adds the effects of a change to lines, if something is kept of the desk before it. A change keeps
+/// the base.
 pub(crate) fn push_effects(
     alloc: Global,
     lines: &mut Vec<u8>,
@@ -144,6 +132,7 @@ pub(crate) fn push_effects(
     after: &Holdings,
 ) -> Result<(), Memory>
     ensures { OnOk result ((asked : Bool) (first : DeskSeen) → IsAsked asked first before.now
+        → first.base ≡ after.now.base
         → lines.new.items ≡ with_effects asked first after.now lines.old.items) }
 {
     match before {
@@ -156,20 +145,25 @@ pub(crate) fn push_effects(
     }
 }
 
-/// The effects of a change.
+/// The effects of a change, which keeps the base.
 pub(crate) fn effects(alloc: Global, before: &Before, after: &Holdings) -> Result<Vec<u8>, Memory>
-    ensures { (first : DeskSeen) → IsBefore first before.now
+    ensures { (first : DeskSeen) → IsBefore first before.now → first.base ≡ after.now.base
         → IfOk result (λ lines. lines.items ≡ effects first after.now) }
 {
-    let found = after.findings()?;
+    let outcomes = after.outcomes_since(&before.messages)?;
+    let failing = failing_set(alloc, &outcomes.before.lines)?;
     let known = KnownLines {
         alloc,
-        failing: &before.failing,
+        failing: &failing,
     };
     let mut lines = Vec::new(alloc);
-    push_each(&mut lines, &known, &found)?;
-    let flights = flights_of(after)?;
-    push_last(alloc, &mut lines, &before.flights, &flights)?;
+    push_each(&mut lines, &known, &outcomes.after.lines)?;
+    push_last(
+        alloc,
+        &mut lines,
+        &outcomes.before.flights,
+        &outcomes.after.flights,
+    )?;
     Ok(lines)
 }
 

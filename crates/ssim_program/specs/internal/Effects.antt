@@ -5,9 +5,7 @@ use Rattle.std.specs.BTreeSet.{BTreeSet, contains_by}
 use Rattle.std.specs.Cmp.Lexicographic.{slice_cmp}
 use Rattle.std.specs.List.{list_any}
 use Rattle.std.specs.Ordering.{nat_cmp}
-use Rattle.ssim_schedule.specs.FlightPieces.{divided_flights}
 use Rattle.ssim_held.specs.Entries.{DeskSeen}
-use Rattle.ssim_desk.specs.Desk.{days_of_desk, finding_lines}
 use Rattle.ssim_desk.specs.declared.finding_line.FindingLine.{FindingLine}
 use Rattle.ssim_program.specs.declared.effects.Before.{Before}
 use Rattle.ssim_program.specs.print.Effects.{fails_as, finding_line}
@@ -21,10 +19,9 @@ is_in set text = contains_by (λ k. slice_cmp nat_cmp text k.items) set
 abbrev pub HasFailing : {A : Type 0} → BTreeSet (Vec ℕ A) → List FindingLine → Type 0
 HasFailing set found = (text : List ℕ) → is_in set text ≡ list_any (fails_as text) found
 
--- what is kept of a desk: the lines that fail, and its timetable
-pub record IsBefore (desk : DeskSeen) (before : Before) : Type 0 where
-  pub failing_are : HasFailing before.failing (finding_lines desk)
-  pub flights_are : before.flights.items ≡ divided_flights (days_of_desk desk)
+-- what is kept of a desk: its messages
+abbrev pub IsBefore : DeskSeen → Before → Type 0
+IsBefore desk before = before.messages.items ≡ desk.held
 
 -- the line of a sub-message that fails, if it is not in a set
 abbrev pub line_unless : {A : Type 0} → BTreeSet (Vec ℕ A) → FindingLine → List ℕ

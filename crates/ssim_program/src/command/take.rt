@@ -97,6 +97,7 @@ fn end_texts<S: Store, W: Write>(
     out: &mut Printer<'_, W>,
 ) -> Result<(), Refusal>
     ensures { (effects : Bool) (first : DeskSeen) → IsAsked effects first before.now
+        → first.base ≡ desk.now.base
         → Does (take_each (S.files store.old) effects first (S.Hold.file place.now) [] desk.now)
         (world (S.files store.old) (S.failures store.old) out.old)
         (world (S.files store.new) (S.failures store.new) out.new) result }

@@ -1,6 +1,8 @@
--- One more message acts.
+-- One more message acts; in the end all have acted.
 use Rattle.std.proofs.Common.{◌≡◌, List, ◌++◌, take, ap, subst, ◌∙◌}
+use Rattle.std.proofs.lemmas.List.{take_all}
 use Rattle.ssim_text.specs.Message.{MessageValue}
+use Rattle.ssim_held.specs.Entries.{Entry}
 use Rattle.ssim_desk.specs.Desk.{sub_lines}
 use Rattle.ssim_desk.specs.Meaning.{after_entries, subs_findings}
 use Rattle.ssim_desk.specs.declared.finding_line.FindingLine.{FindingLine}
@@ -36,3 +38,9 @@ loop-held-preserved c = λ before shows.
           so_far.lines_are
           ∙ lines_one_more rows messages k e c.loop-held-test.true c.held-item.is before;
     }
+
+pub returns-clause-shows : goal.returns-clause-shows
+returns-clause-shows c = λ before shows.
+    let so_far = c.loop-held.invariant before shows in
+    subst (λ (es : List Entry). Shows c.loop-held.schedule (after_entries c.args.rows.now es before))
+    (take_all c.loop-held.held-index c.args.messages.now c.loop-held-test.false) so_far.shows

@@ -22,4 +22,4 @@ returns c =
     if_ok c.act_all.result (λ lines h. h (itinerary_among (flights_of messages) base.records) shows
     ∙ ap (entry_lines messages) (found_among base messages))
     (subst (λ (rows : List Row). IfOk c.act_all.result (λ lines. (before : Timetable) → Shows c.in_ok-schedule.schedule before
-    → lines.items ≡ entry_lines messages (entries_findings rows messages before))) c.rows.ensures c.act_all.ensures)
+    → lines.items ≡ entry_lines messages (entries_findings rows messages before))) c.rows.ensures c.act_all.ensures.lines)

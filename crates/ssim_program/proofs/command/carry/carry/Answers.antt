@@ -99,7 +99,7 @@ returns-clause-answer g c =
     let lines
     : c.push_effects.new.lines.items ≡ with_effects effects c.in_ok-desk.desk made.0
     (done.lines ++ held_line (length made.0.held)) =
-    c.in_ok-push_effects.ensures effects c.in_ok-desk.desk c.in_ok-before.ensures
+    c.in_ok-push_effects.ensures effects c.in_ok-desk.desk c.in_ok-before.ensures (sym done.carry.base)
     ∙ ap (with_effects effects c.in_ok-desk.desk made.0) done.all in (
       tt,
       c.in_ok-place.ensures.held,

@@ -1,5 +1,5 @@
 -- The second desk is refused, or the merge.
-use Rattle.std.proofs.Common.{◌≡◌, ◌∙◌, ◌∷◌, [], Err, Option, ap, inl, inr, length, refl, rules, subst, Ok}
+use Rattle.std.proofs.Common.{◌≡◌, ◌∙◌, ◌∷◌, [], Err, Option, ap, inl, inr, length, refl, rules, subst, sym, Ok}
 use Rattle.std.proofs.lemmas.Result.{err_from_is_err_and}
 use Rattle.ssim_held.specs.Entries.{AreRising}
 use Rattle.ssim_held.specs.File.{desk_file}
@@ -46,7 +46,8 @@ returns-clause-answer g c =
     let after = c.merge_desks.new.desk in
     let held : c.in_ok-lines.lines.items ≡ held_line (length after.held) = c.in_ok-lines.ensures ∙ ap held_line (ap length c.held.ensures.value) in
     let lines : c.push_effects.new.lines.items ≡ with_effects effects mine after (held_line (length after.held)) =
-    c.in_ok-push_effects.ensures effects mine c.in_ok-before.ensures ∙ ap (with_effects effects mine after) held in (
+    c.in_ok-push_effects.ensures effects mine c.in_ok-before.ensures
+    (sym c.in-Ok.ensures.merged.base) ∙ ap (with_effects effects mine after) held in (
       tt,
       c.in_ok-place.ensures.held,
       (

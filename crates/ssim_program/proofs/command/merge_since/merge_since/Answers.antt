@@ -11,6 +11,7 @@ use Rattle.ssim_program.specs.MergingSince.{IsOver, older_in}
 use Rattle.ssim_program.specs.print.Effects.{with_effects}
 use Rattle.ssim_program.specs.declared.refusal.Refusal.{Refusal}
 use Rattle.ssim_program.specs.declared.refusal.Refusal.TheVariants as refused
+use Rattle.ssim_program.proofs.KeptBase.{since_base}
 use Rattle.ssim_program.proofs.command.merge_since.merge_since.Goals as goal
 
 pub returns-in_err-desk-clause-answer : goal.returns-in_err-desk-clause-answer
@@ -185,6 +186,7 @@ returns-clause-answer g c =
     : c.push_effects.new.lines.items ≡ with_effects effects c.in_ok-desk.desk after
     (held_line (length after.held)) =
     c.in_ok-push_effects.ensures effects c.in_ok-desk.desk c.in_ok-before.ensures
+    (sym (since_base c.in_ok-old.old c.in_ok-desk.desk c.in_ok-other.other after c.in-Ok.ensures))
     ∙ ap (with_effects effects c.in_ok-desk.desk after) held in (
       tt,
       c.in_ok-place.ensures.held,

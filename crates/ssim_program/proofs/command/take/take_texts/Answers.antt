@@ -1,5 +1,5 @@
 -- One more text is taken and its line printed, or not; or no text is left, and the desk is kept.
-use Rattle.std.proofs.Common.{◌≡◌, ◌∙◌, [], Bool, Err, List, ℕ, Ok, Option, Result, map, refl, rules, subst, sym}
+use Rattle.std.proofs.Common.{◌≡◌, ◌∙◌, [], ap, Bool, Err, List, ℕ, Ok, Option, Result, map, refl, rules, subst, sym}
 use Rattle.std.proofs.Common.{◌+◌, drop, get_or}
 use Rattle.ssim_held.specs.Entries.{DeskSeen}
 use Rattle.ssim_command_line.specs.Line.{Text}
@@ -11,6 +11,7 @@ use Rattle.ssim_program.specs.declared.refusal.Refusal.{Refusal}
 use Rattle.ssim_program.specs.declared.refusal.Refusal.TheVariants as refused
 use Rattle.ssim_program.proofs.Acting.{acted_print, refuses, same_world}
 use Rattle.ssim_words.proofs.NamedFlights.{next_word, no_word}
+use Rattle.ssim_program.proofs.KeptBase.{taken_base}
 use Rattle.ssim_program.proofs.Taking.{no_memory, not_printed, not_taken, one_text}
 use Rattle.ssim_program.proofs.command.take.take_texts.Goals as goal
 
@@ -30,6 +31,9 @@ loop-name-preserved g c =
     let next = next_word (λ t. t.now) names i (record { ref_ptr = (0, 0); now = [] }) c.loop-name-test.true in
     record {
       asked = c.loop-name.invariant.asked;
+      base = c.loop-name.invariant.base
+          ∙ sym (taken_base (g.S.Store.files c.loop-name.store) one desk mid c.in-Ok.line.items
+          c.in-Ok.ensures.text);
       files = c.take_text.ensures.same ∙ c.loop-name.invariant.files;
       through = λ after r rest. c.loop-name.invariant.through after r
           (over files effects first out _ _ desk w after r next
@@ -75,6 +79,7 @@ loop-name-init g c =
     let w = world (g.S.Store.files c.args.store.now) (g.S.Store.failures c.args.store.now) c.args.out.now in
     record {
       asked = c.in_ok-before.ensures;
+      base = sym (ap (λ (d : DeskSeen). d.base) c.in_ok-intake.ensures);
       files = refl;
       through = λ after r does.
           subst (λ (d : DeskSeen). Does (take_each files c.args.taking.now.effects c.args.desk out names d) w after r) c.in_ok-intake.ensures does;
@@ -116,7 +121,10 @@ returns g c =
     let v = world (g.S.Store.files c.end_texts.new.store) (g.S.Store.failures c.end_texts.new.store) c.end_texts.new.out in
     let r = c.end_texts.result in
     let none = no_word (λ t. t.now) names i c.loop-name-test.false in
-    let done = subst (λ (f : Option Files). Does (take_each f effects first out [] c.in_ok-after.after) w v r) c.loop-name.invariant.files (c.end_texts.ensures effects first c.loop-name.invariant.asked) in
+    let done = subst
+    (λ (f : Option Files). Does (take_each f effects first out [] c.in_ok-after.after) w v r)
+    c.loop-name.invariant.files (c.end_texts.ensures effects first c.loop-name.invariant.asked
+    (c.loop-name.invariant.base ∙ sym (ap (λ (d : DeskSeen). d.base) c.in_ok-after.ensures))) in
     c.loop-name.invariant.through v r
     (over files effects first out _ _ c.loop-name.intake w v r none
     (subst (λ (d : DeskSeen). Does (take_each files effects first out [] d) w v r) c.in_ok-after.ensures done))

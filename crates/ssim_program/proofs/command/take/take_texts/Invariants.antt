@@ -9,6 +9,7 @@ use Rattle.ssim_program.proofs.command.take.take_texts.Given as goal
 abbrev pub invariant-loop-name : goal.invariant-loop-name
 invariant-loop-name g l = record {
   asked : IsAsked l.taking.effects l.fn.desk l.before;
+  base : l.fn.desk.base ≡ l.intake.base;
   files : g.S.Store.files l.store ≡ g.S.Store.files l.fn.store;
   through : (after : World) (r : Result (Unit {0}) Refusal)
       → Does (take_each (g.S.Store.files l.fn.store) l.taking.effects l.fn.desk (g.S.Hold.Hold.file l.taking.place.now) (drop l.name-index (map (λ t. t.now) l.taking.names.now)) l.intake) (world (g.S.Store.files l.store) (g.S.Store.failures l.store) l.out) after r

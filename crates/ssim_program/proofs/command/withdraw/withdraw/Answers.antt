@@ -22,9 +22,10 @@ returns-in_err-lines-clause-answer g c =
 pub returns-clause-answer : goal.returns-clause-answer
 returns-clause-answer g c =
     let desk = c.in_ok-desk-2.desk in let lines = c.in_ok-lines.lines.items in let effects = c.args.effects in let first = c.in_ok-desk.desk in
-    let printed : c.push_effects.new.lines.items ≡ with_effects effects first desk lines = c.in_ok-push_effects.ensures effects first c.in_ok-desk.ensures.kept in
     let read = subst (λ (f : Option Files). desk_in f c.args.file.now (Ok c.in_ok-desk.desk)) c.hold.ensures.same c.in_ok-desk.ensures.ok in
     let done = subst (λ (d : DeskSeen). WithdrawsFrom (map (λ t. t.now) c.args.words.now) c.in_ok-desk.desk d lines) (sym c.in_ok-desk-2.ensures) c.in_ok-lines.ensures.done in
+    let printed : c.push_effects.new.lines.items ≡ with_effects effects first desk lines =
+    c.in_ok-push_effects.ensures effects first c.in_ok-desk.ensures.kept (sym done.base) in
     let rising = subst AreRising c.held.ensures.value c.held.ensures.rising in (
       tt,
       c.in_ok-place.ensures.held,
