@@ -18,7 +18,8 @@ use Rattle.ssim_values.specs.Variation.{Offset, variation_of}
 use Rattle.ssim_base.specs.Stations.{Row}
 use Rattle.ssim_base.specs.Timetable.{period_of}
 use Rattle.ssim_overview.specs.Totals.{station_at}
-use Rattle.ssim_overview.specs.internal.StationNotes.{AddsEnds, AreByStation, AreEnds, DatedEnd}
+use Rattle.ssim_overview.specs.internal.StationNotes.{AddsEnds, AreByStation, AreEnds, AreQuiet}
+use Rattle.ssim_overview.specs.internal.StationNotes.{DatedEnd, IsQuietText}
 use Rattle.ssim_overview.specs.internal.StationNotes.{is_kept}
 use Rattle.ssim_overview.specs.internal.StationNotes.{dated_ends, is_quiet, record_ends}
 use Rattle.ssim_overview.specs.internal.StationNotes.{records_ends}
@@ -196,3 +197,50 @@ both_ends table leg period from to old mid new p f t a b =
     subst (λ (ends : List DatedEnd). AddsEnds table ends old new)
     (λ i. (p i, f i) ∷ (p i, t i) ∷ [])
     (more_ends table ((period, from) ∷ []) ((period, to) ∷ []) old mid new a b)
+
+-- ---- quiet columns
+
+not_kept : (s : List ℕ) (rows : List Row) (e : DatedEnd)
+    → (bytes_eq e.1.station s ≡ true → is_quiet rows e.0 e.1 ≡ true) → is_kept s rows e ≡ false
+not_kept s rows e quiet = by (bytes_eq e.1.station s) refl
+  where
+    by : (b : Bool) → bytes_eq e.1.station s ≡ b
+        → (b && (nat_le e.0.first e.0.last && not (is_quiet rows e.0 e.1))) ≡ false
+    by true is =
+        ap (λ (t : Bool). nat_le e.0.first e.0.last && not t) (quiet is)
+        ∙ and_false (nat_le e.0.first e.0.last)
+    by false is = refl
+
+-- neither end of a leg is kept
+pub quiet_leg : (table : List (List Row)) (leg : LegFields) (period : DayRange) (columns : List ℕ)
+    (lists : List (List DatedEnd)) → period ≡ period_of leg → columns ≡ leg.columns
+    → AreQuiet table period columns → AddsEnds table (dated_ends leg) lists lists
+quiet_leg table leg period columns lists p are quiet =
+    let d : DatedEnd = (period_of leg, departure_end leg) in
+    let a : DatedEnd = (period_of leg, arrival_end leg) in
+    let own : AreQuiet table (period_of leg) leg.columns =
+    subst (λ (c : List ℕ). AreQuiet table (period_of leg) c) are
+    (subst (λ (r : DayRange). AreQuiet table r columns) p quiet) in
+    same_ends table (dated_ends leg) lists
+    (λ k lt. ap₂
+    (λ (x y : Bool). if x then d ∷ (if y then a ∷ [] else []) else (if y then a ∷ [] else []))
+    (not_kept (station_at k) (get_or table k []) d
+    (λ is. own.departure k lt is (leg_columns 37 39 leg.columns)
+    (slice_index (leg_columns 193 194 leg.columns) 0)))
+    (not_kept (station_at k) (get_or table k []) a
+    (λ is. own.arrival k lt is (leg_columns 55 57 leg.columns)
+    (slice_index (leg_columns 193 194 leg.columns) 1))))
+
+-- at its rank a station has the rows by which a text is quiet
+pub quiet_at : (table : List (List Row)) (n : ℕ) (rows : List Row) (period : DayRange)
+    (text station own columns : List ℕ)
+    → ((k : ℕ) → k < 17576 → nat_eq n k ≡ bytes_eq station (station_at k))
+    → station ≡ own → text ≡ columns → get_or table n [] ≡ rows → IsQuietText rows period text
+    → (k : ℕ) → k < 17576 → bytes_eq own (station_at k) ≡ true
+    → IsQuietText (get_or table k []) period columns
+quiet_at table n rows period text station own columns only is are at quiet k lt here =
+    let same : k ≡ n =
+    together k n (only k lt ∙ ap (λ (s : List ℕ). bytes_eq s (station_at k)) is ∙ here) in
+    subst (λ (t : List ℕ). IsQuietText (get_or table k []) period t) are
+    (subst (λ (r : List Row). IsQuietText r period text)
+    (sym (ap (λ (i : ℕ). get_or table i []) same ∙ at)) quiet)

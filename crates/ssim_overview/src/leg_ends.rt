@@ -1,17 +1,20 @@
 //! The ends of leg records that may give a note on a station table, by station.
 
-ghost use Rattle.std.specs.Prelude.{◌≡◌, ℕ, ◌<◌, ◌∷◌, [], IfOk, IfSome, IfNone, OnOk, length};
-ghost use Rattle.std.specs.Prelude.{map, slice_index_or};
+ghost use Rattle.std.specs.Prelude.{◌≡◌, ℕ, ◌<◌, ◌∷◌, [], IfOk, IfSome, IfNone, IsTrue, OnOk};
+ghost use Rattle.std.specs.Prelude.{length, map, slice_index_or};
 ghost use Rattle.ssim_base.specs.Timetable.{period_of};
 ghost use Rattle.ssim_overview.specs.StationNotes.{leg_end, says_other};
 ghost use Rattle.ssim_overview.specs.internal.StationNotes.{AddsEnds, AreByStation, AreEnds};
+ghost use Rattle.ssim_overview.specs.internal.StationNotes.{AreQuiet, IsQuietText};
 ghost use Rattle.ssim_overview.specs.internal.StationNotes.{dated_ends, is_around, is_beside};
 ghost use Rattle.ssim_overview.specs.internal.StationNotes.{is_quiet, record_ends, records_ends};
 
 use crate::said_variation::is_same;
+use crate::spelled_row::SpelledRow;
 use crate::station_marks::number_of;
 use ssim_base::StationRow;
-use ssim_records::{LegRecord, Record};
+use ssim_columns::leg_fields::{ARRIVAL_VARIATION, DEPARTURE_VARIATION};
+use ssim_records::{LegColumns, LegRecord, Record};
 use ssim_values::{Day, Memory, Period, Station, Variation};
 use std::alloc::Global;
 
@@ -33,18 +36,18 @@ pub(crate) struct LegEnd {
 pub(crate) fn rows_by_station(
     alloc: Global,
     rows: &[StationRow],
-) -> Result<Vec<Vec<StationRow>>, Memory>
+) -> Result<Vec<Vec<SpelledRow>>, Memory>
     ensures { IfOk result (λ table. AreByStation rows.now (map (λ list. list.items) table.items)) }
 {
     let mut table = no_rows(alloc)?;
     for row in rows {
-        table[number_of(row.station())].push(*row)?;
+        table[number_of(row.station())].push(SpelledRow::of(*row))?;
     }
     Ok(table)
 }
 
 // No row at each rank.
-fn no_rows(alloc: Global) -> Result<Vec<Vec<StationRow>>, Memory>
+fn no_rows(alloc: Global) -> Result<Vec<Vec<SpelledRow>>, Memory>
     ensures len { IfOk result (λ table. length table.items ≡ 17576) }
     ensures none { IfOk result (λ table. (k : ℕ)
         → slice_index_or (map (λ list. list.items) table.items) k [] ≡ []) }
@@ -61,7 +64,7 @@ fn no_rows(alloc: Global) -> Result<Vec<Vec<StationRow>>, Memory>
 /// day of the period has all of them, and the end does not say another variation.
 pub(crate) fn ends_by_station(
     alloc: Global,
-    table: &[Vec<StationRow>],
+    table: &[Vec<SpelledRow>],
     records: &[Record],
 ) -> Result<Vec<Vec<(Period, LegEnd)>>, Memory>
     requires { length table.now ≡ 17576 }
@@ -91,7 +94,7 @@ fn no_ends(alloc: Global) -> Result<Vec<Vec<(Period, LegEnd)>>, Memory>
 // Adds the ends of a record, if it is a leg record.
 fn add_record(
     ends: &mut Vec<Vec<(Period, LegEnd)>>,
-    table: &[Vec<StationRow>],
+    table: &[Vec<SpelledRow>],
     record: &Record,
 ) -> Result<(), Memory>
     requires table { length table.now ≡ 17576 }
@@ -108,7 +111,7 @@ fn add_record(
 // Adds the ends of a leg record.
 fn add_leg(
     ends: &mut Vec<Vec<(Period, LegEnd)>>,
-    table: &[Vec<StationRow>],
+    table: &[Vec<SpelledRow>],
     leg: &LegRecord,
 ) -> Result<(), Memory>
     requires table { length table.now ≡ 17576 }
@@ -125,7 +128,7 @@ fn add_leg(
 // Adds the ends of a leg record with this period.
 fn add_ends(
     ends: &mut Vec<Vec<(Period, LegEnd)>>,
-    table: &[Vec<StationRow>],
+    table: &[Vec<SpelledRow>],
     period: Period,
     leg: &LegRecord,
 ) -> Result<(), Memory>
@@ -136,6 +139,9 @@ fn add_ends(
         (map (λ list. list.items) ends.old.items) (map (λ list. list.items) ends.new.items)) }
 {
     let columns = leg.columns();
+    if are_quiet(table, &period, &columns) {
+        return Ok(());
+    }
     let [departure, arrival] = columns.date_variations();
     let from = columns.departure_variation();
     let to = columns.arrival_variation();
@@ -148,6 +154,32 @@ fn add_ends(
         departure,
     )?;
     add_end(ends, table, period, columns.arrival_station(), to, arrival)
+}
+
+// Whether neither end of a leg with these columns can give a note in a period, as their texts show.
+// Mostly it is so, and the columns are not parsed.
+fn are_quiet(table: &[Vec<SpelledRow>], period: &Period, columns: &LegColumns) -> bool
+    requires { length table.now ≡ 17576 }
+    ensures { IsTrue result → AreQuiet (map (λ list. list.items) table.now) period.now columns.now }
+{
+    let from = columns.text(DEPARTURE_VARIATION);
+    let to = columns.text(ARRIVAL_VARIATION);
+    is_quiet_text(&table[number_of(columns.departure_station())], period, from)
+        && is_quiet_text(&table[number_of(columns.arrival_station())], period, to)
+}
+
+// Whether the first of these rows with a day of a period has all of them, and a text is that of its
+// variation.
+fn is_quiet_text(rows: &[SpelledRow], period: &Period, text: &[u8]) -> bool
+    requires { length text.now ≡ 5 }
+    ensures { IsTrue result → IsQuietText rows.now period.now text.now }
+{
+    for row in rows {
+        if !is_beside(&row.row(), period) {
+            return is_around(&row.row(), period) && row.is_spelled(text);
+        }
+    }
+    false
 }
 
 // The period of a leg record, if its first day is not after its last. The leg records of a base have
@@ -180,7 +212,7 @@ fn leg_end(station: Station, variation: Option<Variation>, date_variation: u8) -
 // Adds an end, if it may give a note.
 fn add_end(
     ends: &mut Vec<Vec<(Period, LegEnd)>>,
-    table: &[Vec<StationRow>],
+    table: &[Vec<SpelledRow>],
     period: Period,
     station: Station,
     variation: Option<Variation>,
@@ -206,12 +238,13 @@ fn add_end(
 
 // Whether the first of these rows with a day of a period has all of them, and an end does not say
 // another variation.
-fn is_quiet(rows: &[StationRow], end: &(Period, LegEnd)) -> bool
+fn is_quiet(rows: &[SpelledRow], end: &(Period, LegEnd)) -> bool
     ensures { result ≡ is_quiet rows.now end.now.0 end.now.1 }
 {
     for row in rows {
-        if !is_beside(row, &end.0) {
-            return is_around(row, &end.0) && !says_other(row.variation(), &end.1);
+        let row = row.row();
+        if !is_beside(&row, &end.0) {
+            return is_around(&row, &end.0) && !says_other(row.variation(), &end.1);
         }
     }
     false

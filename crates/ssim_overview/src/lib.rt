@@ -16,6 +16,7 @@ mod leg_ends;
 mod said_table;
 mod said_variation;
 mod sayings;
+mod spelled_row;
 mod station_marks;
 mod station_rows;
 mod table_notes;

@@ -8,6 +8,7 @@ ghost use Rattle.ssim_overview.specs.internal.StationNotes.{AddsDates, extended,
 ghost use Rattle.ssim_overview.specs.internal.StationNotes.{is_marked_by};
 
 use crate::leg_ends::{LegEnd, ends_by_station, rows_by_station, says_other};
+use crate::spelled_row::SpelledRow;
 use crate::station_marks::{count_marks, station_at};
 use crate::station_rows::holds;
 use ssim_base::{StationRow, variation_at};
@@ -69,7 +70,7 @@ fn push_station(
     alloc: Global,
     notes: &mut Vec<StationNote>,
     rank: usize,
-    rows: &[StationRow],
+    rows: &[SpelledRow],
     ends: &[(Period, LegEnd)],
 ) -> Result<(), Memory>
     requires { rank < 17576 }
@@ -80,10 +81,22 @@ fn push_station(
         return Ok(());
     }
     let station = station_at(rank);
-    let missing = marks(alloc, station, NoteKind::Missing, rows, ends)?;
+    let rows = plain_rows(alloc, rows)?;
+    let missing = marks(alloc, station, NoteKind::Missing, &rows, ends)?;
     push_note(notes, station, NoteKind::Missing, &missing)?;
-    let other = marks(alloc, station, NoteKind::Other, rows, ends)?;
+    let other = marks(alloc, station, NoteKind::Other, &rows, ends)?;
     push_note(notes, station, NoteKind::Other, &other)
+}
+
+// The rows without their texts.
+fn plain_rows(alloc: Global, rows: &[SpelledRow]) -> Result<Vec<StationRow>, Memory>
+    ensures { IfOk result (λ plain. plain.items ≡ rows.now) }
+{
+    let mut plain = Vec::with_capacity(alloc, rows.len())?;
+    for row in rows {
+        plain.push(row.row())?;
+    }
+    Ok(plain)
 }
 
 // A mark for each date of the calendar: whether one of the ends gives a note of a kind on it.

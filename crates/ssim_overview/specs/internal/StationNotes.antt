@@ -7,12 +7,13 @@ use Rattle.std.specs.List.{flat_map, list_any}
 use Rattle.std.specs.Str.{bytes_eq}
 use Rattle.ssim_values.specs.Period.{DayRange}
 use Rattle.ssim_periods.specs.Calendar.{holds}
-use Rattle.ssim_records.specs.Leg.{LegFields}
+use Rattle.ssim_values.specs.Variation.{variation_of}
+use Rattle.ssim_records.specs.Leg.{LegFields, leg_columns}
 use Rattle.ssim_records.specs.declared.record.Record.{Record}
 use Rattle.ssim_records.specs.declared.record.Record.TheVariants.{Leg}
 use Rattle.ssim_base.specs.Stations.{Row, variation_at}
 use Rattle.ssim_base.specs.Timetable.{period_of}
-use Rattle.ssim_overview.specs.StationNotes.{gives_note, leg_ends, notes_on}
+use Rattle.ssim_overview.specs.StationNotes.{gives_note, leg_end, leg_ends, notes_on}
 use Rattle.ssim_overview.specs.Totals.{station_at}
 use Rattle.ssim_overview.specs.declared.leg_ends.LegEnd.{LegEnd}
 use Rattle.ssim_overview.specs.declared.table_notes.NoteKind.{NoteKind}
@@ -64,6 +65,19 @@ is_quiet [] period end = false
 is_quiet (row ∷ rows) period end =
     if is_beside row period then is_quiet rows period end
     else is_around row period && not (gives_note Other (Some row.variation) end)
+
+-- no end with the variation of a text may give a note, by these rows
+abbrev pub IsQuietText : List Row → DayRange → List ℕ → Type 0
+IsQuietText rows period text =
+    (station : List ℕ) (date_variation : ℕ)
+    → is_quiet rows period (leg_end station (variation_of text) date_variation) ≡ true
+
+-- neither end of a leg with these columns may give a note, by the lists of rows
+pub record AreQuiet (table : List (List Row)) (period : DayRange) (columns : List ℕ) : Type 0 where
+  pub departure : (k : ℕ) → k < 17576 → bytes_eq (leg_columns 37 39 columns) (station_at k) ≡ true
+      → IsQuietText (slice_index_or table k []) period (leg_columns 48 52 columns)
+  pub arrival : (k : ℕ) → k < 17576 → bytes_eq (leg_columns 55 57 columns) (station_at k) ≡ true
+      → IsQuietText (slice_index_or table k []) period (leg_columns 66 70 columns)
 
 -- whether an end of a station may give a note on a date of its period
 abbrev pub is_kept : List ℕ → List Row → DatedEnd → Bool

@@ -1,9 +1,15 @@
--- The departure and then the arrival.
+-- No end, or the departure and then the arrival.
 use Rattle.std.proofs.Common.{map, refl, slice_index}
 use Rattle.std.proofs.lemmas.Result.{on_ok_weaker}
 use Rattle.ssim_overview.specs.StationNotes.{leg_end}
-use Rattle.ssim_overview.proofs.NoteEnds.{both_ends, end_read}
+use Rattle.ssim_overview.proofs.NoteEnds.{both_ends, end_read, quiet_leg}
 use Rattle.ssim_overview.proofs.leg_ends.add_ends.Goals as goal
+
+pub returns-then-are_quiet : goal.returns-then-are_quiet
+returns-then-are_quiet c =
+    quiet_leg (map (λ list. list.items) c.args.table.now) c.args.leg.now c.args.period
+    c.columns-columns.result (map (λ list. list.items) c.args.ends.now.items) c.requires.period
+    c.columns-columns.ensures (c.are_quiet.ensures c.if-are_quiet.true)
 
 pub returns : goal.returns
 returns c =

@@ -1,7 +1,8 @@
 -- One row more, at the rank of its station.
-use Rattle.std.proofs.Common.{◌<◌, ◌∙◌, List, ℕ, map, slice_set, length, ap, arith}
+use Rattle.std.proofs.Common.{◌<◌, ◌∙◌, ◌++◌, ◌∷◌, [], List, ℕ, map, slice_set, length, ap, arith}
 use Rattle.std.specs.Str.{bytes_eq}
 use Rattle.std.proofs.lemmas.List.{length-map}
+use Rattle.ssim_base.specs.Stations.{Row}
 use Rattle.ssim_overview.specs.Totals.{station_at}
 use Rattle.ssim_overview.proofs.NoteEnds.{row_more}
 use Rattle.ssim_overview.proofs.Ranks.{pushed}
@@ -21,5 +22,6 @@ loop-row-preserved c =
     ∙ ap (λ (s : List ℕ). bytes_eq s (station_at k)) c.station.ensures)
     (pushed (λ list. list.items) table n c.index_mut.result.now c.push.new.self row within
     c.index_mut.ensures.value
-    c.in_ok-push.ensures.items)
+    (c.in_ok-push.ensures.items
+    ∙ ap (λ (r : Row). c.index_mut.result.now.items ++ r ∷ []) c.of.ensures))
     c.loop-row.invariant
