@@ -296,6 +296,7 @@ def standard_input(room):
         (["check", "-"], room.read("column.ssim"), 12),
         (["take", "fdh.desk", "out", "-"], room.read("other.ssm"), 41),
         (["take", "fdh.desk", "out", "texts/01-holiday.ssm", "-"], room.read("texts/14-no-such-date.ssm"), 24),
+        (["take", "fdh.desk", "out", "-", "texts/14-no-such-date.ssm"], b"SSM\nLT\n01JUN00001E001\nXXX\n", 22),
         (["merge", "fdh.desk", "-", "out"], room.read("broken.desk"), 62),
         (["merge", "-", "fdh.desk", "out"], room.read("broken.desk"), 62),
     ):

@@ -130,7 +130,7 @@ impl<'a> ReadFile<'a> {
 }
 
 /// Whether the lines of two refusals are equal.
-fn are_one_line(alloc: Global, one: &Refusal, other: &Refusal) -> Result<bool, Memory> {
+pub(super) fn are_one_line(alloc: Global, one: &Refusal, other: &Refusal) -> Result<bool, Memory> {
     let line = one.line(alloc)?;
     let other = other.line(alloc)?;
     Ok(line == other)

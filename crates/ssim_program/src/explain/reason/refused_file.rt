@@ -2,7 +2,7 @@
 
 ghost use Rattle.std.specs.Prelude.{◌≡◌};
 
-use super::read_file::{ReadFile, Role, files_read};
+use super::read_file::{ReadFile, Role, are_one_line, files_read};
 use crate::desk_file::open_holdings;
 use crate::refusal::Refusal;
 use crate::store::Store;
@@ -30,7 +30,7 @@ pub(super) fn refused_file<'a, S: Store>(
     let files = files_with(alloc, &files, refusal)?;
     match request {
         Request::Take { desk, .. } if *desk != "-" && is_of_text(refusal) => {
-            refused_text(alloc, desk, &files, store)
+            refused_text(alloc, desk, &files, refusal, store)
         }
         _ => first_refused(alloc, &files, refusal, store),
     }
@@ -99,12 +99,13 @@ fn standard_input<'a>(files: &[ReadFile<'a>]) -> Option<ReadFile<'a>> {
     None
 }
 
-/// The only one of these texts. Else the first that the desk refuses when it takes them again, or
-/// the standard input.
+/// The only one of these texts. Else the first that the desk refuses when it takes them again, if it
+/// is for the same. Else the standard input: it is not read again, and came before.
 fn refused_text<'a, S: Store>(
     alloc: Global,
     desk: &str,
     texts: &[ReadFile<'a>],
+    refusal: &Refusal,
     store: &mut S,
 ) -> Result<Option<ReadFile<'a>>, Memory>
     ensures same { S.files store.new ≡ S.files store.old }
@@ -118,13 +119,32 @@ fn refused_text<'a, S: Store>(
     };
     let mut desk = Intake::of(held)?;
     for text in texts {
-        let is_taken = match text.load(alloc, store)? {
-            Some(bytes) => desk.take(&bytes).is_ok(),
-            None => true,
-        };
-        if !is_taken {
-            return Ok(Some(*text));
+        if let Some(found) = refused_again(alloc, &mut desk, text, store)? {
+            if are_one_line(alloc, &found, refusal)? {
+                return Ok(Some(*text));
+            }
+            return Ok(standard_input(texts));
         }
     }
     Ok(standard_input(texts))
+}
+
+/// Why the desk refuses a text when it takes it again, if it does.
+fn refused_again<S: Store>(
+    alloc: Global,
+    desk: &mut Intake,
+    text: &ReadFile<'_>,
+    store: &mut S,
+) -> Result<Option<Refusal>, Memory>
+    ensures same { S.files store.new ≡ S.files store.old }
+    ensures counted { S.failures store.new ≡ S.failures store.old }
+{
+    let Some(bytes) = text.load(alloc, store)? else {
+        return Ok(None);
+    };
+    match desk.take(&bytes) {
+        Ok(_) => Ok(None),
+        Err(DeskFault::Memory) => Err(Memory),
+        Err(fault) => Ok(Some(Refusal::from(fault))),
+    }
 }
